@@ -1,0 +1,4 @@
+pub mod Closes
+pub mod Entries
+pub mod Finds
+pub mod Puts
