@@ -1,0 +1,9 @@
+pub mod Adding
+pub mod Areas
+pub mod Blocks
+pub mod Checks
+pub mod Encoding
+pub mod Files
+pub mod Opening
+pub mod Reading
+pub mod Sealing
