@@ -1,0 +1,4 @@
+pub mod Listable
+pub mod Listing
+pub mod Numbered
+pub mod Touching

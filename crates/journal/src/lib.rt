@@ -1,0 +1,4 @@
+// Values as a message lists them, and the record that keeps the line.
+pub mod listing;
+pub mod record;
+pub mod values;
