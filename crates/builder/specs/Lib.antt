@@ -1,0 +1,4 @@
+pub mod Marks
+pub mod Roles
+pub mod Styling
+pub mod Written

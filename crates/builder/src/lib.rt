@@ -1,0 +1,3 @@
+// Terminal styles by role.
+pub mod styled_str;
+pub mod styling;
