@@ -46,13 +46,13 @@ fn all_marks(rt: LibcRuntime) -> Result<(), Fail> {
 fn shows(style: Style, bytes: &[u8]) -> bool {
     let mut out = [0u8; 20];
     let n = bytes.len();
-    let Some(part) = out.get_mut(0..n) else {
+    if n > 20
+        || styled_len(style, b"word") != Some(n)
+        || push_styled(&mut out[0..n], 0, style, b"word") != Some(n)
+    {
         return false;
-    };
-    styled_len(style, b"word") == Some(n)
-        && push_styled(part, 0, style, b"word") == Some(n)
-        && part == bytes
-        && push_styled(part, 1, style, b"word").is_none()
+    }
+    &out[0..n] == bytes && push_styled(&mut out[0..n], 1, style, b"word").is_none()
 }
 
 #[test]
