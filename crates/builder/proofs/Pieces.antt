@@ -1,13 +1,13 @@
 -- Of pieces of text that are written into memory one after the other.
 use mathlib.Core.Path.{_≡_, sym, ap, _∙_}
-use mathlib.Core.Bool.{true, false}
+use mathlib.Core.Bool.{false}
 use mathlib.Core.List.{List, _++_, append-assoc}
 use Prim.Native.Nat.{ℕ, _+_, _≤_}
 use native.Mathlib.Omega.{arith}
 use borrow.Rule.Slice.PartMut.{putMid}
 use lib.ListN.{length, take, drop, length-append}
 use Rattle.std.proofs.shelf.Lists.{drop-drop, take-at, drop-at, length-take-le}
-use Rattle.std.proofs.shelf.Tests.{cond-true, cond-false}
+use Rattle.std.proofs.shelf.Tests.{cond-false}
 use Rattle.builder.specs.Marks.{isPlain, marks, reset, styledText}
 use Rattle.builder.specs.Written.{Writes}
 use Rattle.builder.specs.declared.styling.Style.{Style}
@@ -20,10 +20,7 @@ written-at was bs q at k e f =
     ap (λ (l : List ℕ). take at was ++ (l ++ drop k (drop at was))) e
     ∙ ap (λ (l : List ℕ). take at was ++ (bs ++ l)) (drop-drop k at was ∙ ap (λ (n : ℕ). drop (at + n) was) f)
 
--- a text in a style that is plain, and in one that is not
-pub styled-plain : (s : Style) (t : List ℕ) → isPlain s ≡ true → styledText s t ≡ t
-styled-plain s t e = cond-true (isPlain s) t (marks s ++ (t ++ reset)) e
-
+-- a text in a style that is not plain
 pub styled-marked : (s : Style) (t : List ℕ) → isPlain s ≡ false → styledText s t ≡ marks s ++ (t ++ reset)
 styled-marked s t e = cond-false (isPlain s) t (marks s ++ (t ++ reset)) e
 

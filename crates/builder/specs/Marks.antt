@@ -1,5 +1,5 @@
 -- The marks of a style.
-use mathlib.Core.Bool.{Bool, true, false, cond, not, _&&_}
+use mathlib.Core.Bool.{Bool, cond, not, _&&_}
 use mathlib.Core.List.{List, [], _∷_, _++_}
 use Prim.Native.Nat.{ℕ, _+_}
 use Rattle.std.specs.declared.option.Option.{Option}
@@ -24,6 +24,7 @@ numberOf White = 7
 abbrev pub mark : List ℕ → List ℕ
 mark n = 27 ∷ 91 ∷ (n ++ (109 ∷ []))
 
+-- the mark of a colour, 30 to 37, or none
 abbrev pub colorMark : Option AnsiColor → List ℕ
 colorMark None = []
 colorMark (Some c) = mark (51 ∷ (48 + numberOf c) ∷ [])

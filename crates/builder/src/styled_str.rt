@@ -1,6 +1,5 @@
 // Ready text, with marks of its own, that is built in lent memory piece by piece.
 ghost use mathlib.Core.Path.{_≡_};
-ghost use mathlib.Core.List.{_++_};
 ghost use lib.ListN.{length};
 ghost use Rattle.builder.specs.Marks.{styledText};
 ghost use Rattle.builder.specs.Written.{Writes};

@@ -72,11 +72,6 @@ module _ {K V : Type 0} where
   zipped-none [] vs h = refl
   zipped-none (x ∷ ks) vs h = absurd (omega arith)
 
-  pub zipped-cut : (ks : List K) (vs : List V) → length vs < 1 → zipped ks vs ≡ []
-  zipped-cut [] vs h = refl
-  zipped-cut (x ∷ ks) [] h = refl
-  zipped-cut (x ∷ ks) (v ∷ vs) h = absurd (omega arith)
-
   pub zipped-next : (ks : List K) (vs : List V) (x : K) (v : V) → 1 ≤ length ks → 1 ≤ length vs → x ≡ getD ks 0 x → v ≡ getD vs 0 v
       → zipped ks vs ≡ (x, v) ∷ zipped (take (length ks - 1) (drop 1 ks)) (take (length vs - 1) (drop 1 vs))
   zipped-next [] vs x v p q e f = absurd (omega arith)

@@ -18,10 +18,11 @@ module _ {K V : Type 0} where
   abbrev pub placesOf : FlatMap K V → ℕ
   placesOf m = min (length (now (m .keys))) (length (now (m .values)))
 
-  -- the places after the last entry, of keys and of values
+  -- the keys' places after the last entry
   abbrev pub spareKeys : FlatMap K V → List K
   spareKeys m = drop (length (entriesOf m)) (now (m .keys))
 
+  -- and the values'
   abbrev pub spareValues : FlatMap K V → List V
   spareValues m = drop (length (entriesOf m)) (now (m .values))
 

@@ -5,7 +5,7 @@ ghost use mathlib.Core.List.{[], _∷_, _++_, map};
 ghost use Prim.Native.Nat.{_≤_, min};
 ghost use denote.Ref.{name};
 ghost use lib.Dec.{eqb, ltb};
-ghost use lib.ListN.{length, set, take, drop};
+ghost use lib.ListN.{length, set, take};
 ghost use Rattle.std.specs.Finite.{nth};
 ghost use Rattle.std.specs.Options.{Cases as BySome, isSome, mapped};
 ghost use Rattle.std.specs.Orderings.{Decides};

@@ -1,6 +1,6 @@
 -- Of a packed list that is made value by value.
 use mathlib.Core.Path.{_≡_, sym, ap, _∙_}
-use mathlib.Core.List.{List, [], _∷_, _++_, map}
+use mathlib.Core.List.{List, [], _++_, map}
 use Prim.Native.Nat.{ℕ, _+_, _<_, _≤_}
 use lib.ListN.{length, take, getD}
 use Rattle.std.proofs.shelf.Lists.{getD-map, map-more, joined-more, take-all}

@@ -7,7 +7,7 @@ use native.Mathlib.Numerals.{add-one}
 use borrow.Rule.Slice.PartMut.{putMid}
 use lib.ListN.{length, take, drop, getD, set, length-append}
 use Rattle.std.specs.shelf.Lists.{joined}
-use Rattle.std.proofs.shelf.Lists.{take-more, take-all, take-append-drop, drop-drop, set-split, drop-set-lt}
+use Rattle.std.proofs.shelf.Lists.{take-more, take-all, take-append-drop, drop-drop, set-split}
 use Rattle.std.proofs.shelf.Parts.{take-putMid, drop-putMid}
 use Rattle.util.specs.Shown.{quoteByte, quoted}
 

@@ -1,18 +1,17 @@
 -- Of packed lists: one item, and all of them.
-use mathlib.Core.Path.{_≡_, refl, sym, ap, subst, _∙_}
+use mathlib.Core.Path.{_≡_, refl, sym, ap, _∙_}
 use mathlib.Core.Bool.{Bool, true, false, cond}
 use mathlib.Core.List.{List, [], _∷_, _++_, append-assoc}
 use Prim.Native.Nat.{ℕ, zero, suc, _+_, _-_, _*_, _/_, _%_, _≤_, _<_}
 use native.Mathlib.Omega.{arith}
-use lib.ListN.{length, take, drop, getD, length-drop, length-take, length-append}
+use lib.ListN.{length, take, drop, getD, length-append}
 use lib.Dec.{leb, eqb}
 use Rattle.std.proofs.shelf.Lists.{take-append-drop, take-at, drop-at, length-take-le}
 use Rattle.std.proofs.shelf.Tests.{le-leb, lt-leb, leb-true, ne-eqb}
 use Rattle.std.specs.declared.option.Option.{Option}
 use Rattle.std.specs.declared.option.Option.the-variants.{Some, None}
 use Rattle.std.specs.Options.{mapped, isSome, valueOr}
-use Rattle.std.specs.shelf.Lists.{joined}
-use Rattle.util.specs.Packed.{firstItem, unpackFrom, unpackBy, unpack, itemsFrom, itemsBy, items, packItem, pack}
+use Rattle.util.specs.Packed.{firstItem, unpackFrom, unpackBy, unpack, itemsFrom, itemsBy, items, packItem}
 
 -- where the two length bytes and enough bytes behind them are found
 pub first-is : (bs ts : List ℕ) (h l : ℕ) (x y : List ℕ) → ts ≡ drop 2 bs → 2 ≤ length bs → h ≡ getD bs 0 0 → l ≡ getD bs 1 0

@@ -20,10 +20,11 @@ letter b =
     cond (eqb b 34) (Some 34) (cond (eqb b 92) (Some 92) (cond (eqb b 116) (Some 9)
     (cond (eqb b 110) (Some 10) (cond (eqb b 114) (Some 13) (cond (eqb b 48) (Some 0) None)))))
 
--- lower-case hexadecimal digits, and their values
+-- lower-case hexadecimal digits
 abbrev pub isHex : ℕ → Bool
 isHex b = (leb 48 b && leb b 57) || (leb 97 b && leb b 102)
 
+-- the value of such a digit
 abbrev pub hexValue : ℕ → ℕ
 hexValue b = cond (leb b 57) (b - 48) (b - 87)
 

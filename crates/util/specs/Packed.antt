@@ -1,7 +1,6 @@
 -- Packed lists.
-use mathlib.Core.Path.{_≡_}
 use mathlib.Core.Bool.{Bool, true, cond, _&&_}
-use mathlib.Core.List.{List, [], _∷_, _++_}
+use mathlib.Core.List.{List, [], _∷_}
 use Prim.Native.Nat.{ℕ, zero, suc, _+_, _*_, _/_, _%_, _<_, _≤_}
 use lib.Dec.{leb}
 use lib.ListN.{take, drop, length}
@@ -27,28 +26,32 @@ firstItem [] = None
 firstItem (h ∷ []) = None
 firstItem (h ∷ (l ∷ bs)) = cond (leb (h * 256 + l) (length bs)) (Some (take (h * 256 + l) bs, drop (h * 256 + l) bs)) None
 
--- the items of a packed list, or none where it is malformed; every item takes a step, and two bytes at least
+-- an item in front of what is unpacked behind it; none where there is no item
 abbrev pub unpackFrom : (List ℕ → Option (List (List ℕ))) → Option (List ℕ × List ℕ) → Option (List (List ℕ))
 unpackFrom more None = None
 unpackFrom more (Some p) = mapped (λ ts. p .0 ∷ ts) (more (p .1))
 
+-- the items in at most so many steps, of which each takes one item, and two bytes at least
 abbrev pub unpackBy : ℕ → List ℕ → Option (List (List ℕ))
 unpackBy n [] = Some []
 unpackBy zero (b ∷ bs) = None
 unpackBy (suc n) (b ∷ bs) = unpackFrom (unpackBy n) (firstItem (b ∷ bs))
 
+-- the items of a packed list, or none where the bytes are malformed
 unfoldable pub unpack : List ℕ → Option (List (List ℕ))
 unpack bs = unpackBy (length bs) bs
 
--- the items up to the end, or up to where no item follows
+-- an item in front of those behind it; none of either where there is no item
 abbrev pub itemsFrom : (List ℕ → List (List ℕ)) → Option (List ℕ × List ℕ) → List (List ℕ)
 itemsFrom more None = []
 itemsFrom more (Some p) = p .0 ∷ more (p .1)
 
+-- the items in at most so many steps
 abbrev pub itemsBy : ℕ → List ℕ → List (List ℕ)
 itemsBy zero bs = []
 itemsBy (suc n) bs = itemsFrom (itemsBy n) (firstItem bs)
 
+-- the items up to the end, or up to where no item follows
 unfoldable pub items : List ℕ → List (List ℕ)
 items bs = itemsBy (length bs) bs
 

@@ -9,6 +9,7 @@ use Rattle.std.specs.shelf.Lists.{joined}
 abbrev pub blank : ℕ → Bool
 blank b = eqb b 32 || (leb 9 b && leb b 13)
 
+-- whether there is one
 abbrev pub hasBlank : List ℕ → Bool
 hasBlank [] = false
 hasBlank (b ∷ v) = blank b || hasBlank v

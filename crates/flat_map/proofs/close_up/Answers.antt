@@ -1,9 +1,7 @@
-use mathlib.Core.Path.{_≡_, sym, ap, _∙_}
-use mathlib.Core.List.{List}
+use mathlib.Core.Path.{sym, _∙_}
 use native.Mathlib.Omega.{arith}
-use Prim.Native.Nat.{_≤_, _<_}
-use lib.ListN.{length, take, length-take}
-use Rattle.std.specs.Finite.{nth}
+use Prim.Native.Nat.{_<_}
+use lib.ListN.{take, length-take}
 use Rattle.std.proofs.shelf.Lists.{getD-take}
 use Rattle.std.proofs.shelf.Maps.{nth-read, nth-past}
 use Rattle.flat_map.proofs.Closes.{closed-past, closed-by-turn}

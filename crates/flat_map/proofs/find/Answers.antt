@@ -1,5 +1,4 @@
-use borrow.Author.Needs.{needs}
-use mathlib.Core.Path.{sym, _∙_}
+use mathlib.Core.Path.{sym}
 use native.Mathlib.Omega.{arith}
 use Rattle.flat_map.proofs.Finds.{first-here, first-more, first-end}
 use Rattle.flat_map.proofs.find.Needs as need

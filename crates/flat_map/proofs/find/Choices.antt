@@ -1,6 +1,6 @@
-use Prim.Native.Nat.{_+_, _≤_}
+use Prim.Native.Nat.{_+_}
 use mathlib.Core.Path.{_≡_}
-use lib.ListN.{drop, length}
+use lib.ListN.{drop}
 use Rattle.flat_map.specs.Assoc.{first}
 use Rattle.flat_map.proofs.find.Given as given
 

@@ -1,10 +1,10 @@
 use borrow.Author.Needs.{needs}
-use mathlib.Core.Path.{_≡_, refl, sym, ap, subst, _∙_}
+use mathlib.Core.Path.{_≡_, sym, ap, subst, _∙_}
 use mathlib.Core.List.{List, _++_, append-assoc}
 use native.Mathlib.Omega.{arith}
 use Prim.Native.Nat.{ℕ, _+_, _≤_}
 use lib.ListN.{length, length-append}
-use Rattle.builder.specs.Marks.{marks, reset, styledText}
+use Rattle.builder.specs.Marks.{marks, reset}
 use Rattle.builder.specs.Written.{Writes}
 use Rattle.builder.proofs.Pieces.{styled-marked, length-marked, written-both, writes-last}
 use Rattle.util.proofs.Lengths.{from-exact}

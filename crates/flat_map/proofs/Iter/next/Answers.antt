@@ -1,6 +1,6 @@
 use borrow.Author.Needs.{needs}
 use mathlib.Core.Path.{refl}
-use Rattle.flat_map.proofs.Entries.{zipped-none, zipped-cut, zipped-next}
+use Rattle.flat_map.proofs.Entries.{zipped-none, zipped-next}
 use Rattle.flat_map.proofs.Iter.next.Needs as need
 
 pub returns-in-rest : need.returns-in-rest

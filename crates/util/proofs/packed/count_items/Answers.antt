@@ -1,6 +1,5 @@
 use borrow.Author.Needs.{needs}
 use mathlib.Core.Path.{ap}
-use native.Mathlib.Omega.{arith}
 use lib.ListN.{length}
 use Rattle.util.proofs.Unpacks.{few-items}
 use Rattle.util.proofs.packed.count_items.Needs as need

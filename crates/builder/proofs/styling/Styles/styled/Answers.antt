@@ -1,4 +1,4 @@
-use mathlib.Core.Path.{_≡_, refl, ap, _∙_}
+use mathlib.Core.Path.{refl, ap, _∙_}
 use mathlib.Core.Bool.{true}
 use Rattle.builder.specs.declared.styling.AnsiColor.{AnsiColor}
 use Rattle.builder.specs.declared.styling.AnsiColor.the-variants.{Red, Green, Yellow}

@@ -1,11 +1,10 @@
 use borrow.Author.Needs.{needs}
 use mathlib.Core.Path.{_≡_, sym, ap, _∙_}
 use mathlib.Core.List.{List}
-use Prim.Native.Nat.{ℕ}
 use lib.ListN.{length}
-use Rattle.builder.specs.Styling.{sameRole, allRoles}
+use Rattle.builder.specs.Styling.{sameRole}
 use Rattle.builder.specs.declared.styling.StyledRole.{StyledRole}
-use Rattle.flat_map.specs.Assoc.{entries, lookup, put}
+use Rattle.flat_map.specs.Assoc.{entries, lookup}
 use Rattle.builder.proofs.Whole.{held, done, roles-same, style-here, style-kept}
 use Rattle.builder.proofs.styling.Styles.with.Needs as need
 

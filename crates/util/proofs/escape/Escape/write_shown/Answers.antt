@@ -5,7 +5,7 @@ use native.Mathlib.Omega.{arith}
 use Prim.Native.Nat.{ℕ}
 use lib.ListN.{length, drop}
 use Rattle.std.proofs.shelf.Lists.{length-take-le}
-use Rattle.util.specs.Shown.{shown, quoted}
+use Rattle.util.specs.Shown.{shown}
 use Rattle.util.proofs.Lengths.{from-exact}
 use Rattle.util.proofs.Shows.{shown-quoted, shown-plain}
 use Rattle.util.proofs.escape.Escape.write_shown.Needs as need
