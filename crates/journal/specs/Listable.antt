@@ -12,11 +12,11 @@ use Rattle.util.specs.Text.{isText, IsText}
 abbrev pub Listable : List ℕ → Type 0
 Listable t = IsText t × (length t ≤ 65535)
 
--- why a value is not, which goes by the number n
+-- why a value is not, which goes by the number n; to be no text comes first, want of memory last
 abbrev pub WhyNot : List ℕ → ℕ → Unlisted → Type 0
 WhyNot t n (NoText m) = (m ≡ n) × (isText t ≡ false)
-WhyNot t n (Long m) = (m ≡ n) × (65535 < length t)
-WhyNot t n NoMemory = Unit {0}
+WhyNot t n (Long m) = (m ≡ n) × IsText t × (65535 < length t)
+WhyNot t n NoMemory = Listable t
 
 -- why values are not: the first that cannot be listed, by its number from 1 on, or want of memory
 abbrev pub Fault : List (List ℕ) → Unlisted → Type 0

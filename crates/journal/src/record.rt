@@ -2,7 +2,7 @@
 ghost use mathlib.Core.Path.{_≡_};
 ghost use lib.ListN.{length};
 ghost use Rattle.journal.specs.Touching.{Touches, sealAt};
-ghost use Rattle.sink.specs.File.{fileHeld, fileLeft};
+ghost use Rattle.sink.specs.File.{fileHeld, fileLeft, Kept};
 ghost use Rattle.sink.specs.Outcome.{Adds};
 ghost use Rattle.std.specs.Of.Vec.{vec-items};
 ghost use Rattle.std.specs.Orderings.{Decides};
@@ -21,12 +21,16 @@ pub struct Touched {
     pub to: usize,
 }
 
-// Adds a line to the record, and tells which blocks that touched.
+// Adds a line to the record, and tells which blocks that touched: all others stay.
 pub fn append(file: &mut BlockFile, line: &[u8]) -> Result<Touched, SinkFault>
     ensures adds { λ r. ⌜ Adds (λ e. e) fileHeld fileLeft (now (file .entry)) (now (line .entry)) (now (file .exit)) r ⌝ }
     ensures touched { λ r. ⌜ made r (λ t. Touches (length (fileHeld (now (file .entry)))) (length (now (line .entry))) t) ⌝ }
+    ensures kept { λ r. ⌜ made r (λ t. Kept (t .from) (t .to) (vec-items (now (file .entry) .bytes)) (vec-items (now (file .exit) .bytes))) ⌝ }
 {
     let from = file.len() / 508;
+    if line.is_empty() {
+        return Ok(Touched { from, to: from });
+    }
     file.put(line)?;
     let to = (file.len() + 507) / 508;
     Ok(Touched { from, to })

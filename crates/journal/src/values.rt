@@ -15,7 +15,7 @@ use util::text::is_text;
 // Why values are not listed; a value goes by its number, from 1 on.
 #[derive(Clone, Copy, Debug, PartialEq, Eq)]
 pub enum Unlisted {
-    // It has a byte above 7F.
+    // It is no text.
     NoText(usize),
     // It has more than 65,535 bytes.
     Long(usize),
@@ -25,7 +25,7 @@ pub enum Unlisted {
 pub impl fmt::Display for Unlisted as UnlistedDisplay {
     fn fmt<W: fmt::Write>(&self, f: &mut fmt::Formatter<W>) -> fmt::Result {
         match self {
-            Unlisted::NoText(n) => write!(f, "refused with 2: value {n} has a byte above 7F"),
+            Unlisted::NoText(n) => write!(f, "value {n} is no text"),
             Unlisted::Long(n) => write!(f, "value {n} has more than 65,535 bytes"),
             Unlisted::NoMemory => write!(f, "no memory"),
         }

@@ -1,4 +1,4 @@
--- The check of a block. Layout and files rest on two facts of it only: zeros have the check 0 0, and it is two bytes.
+-- The check of a block. Layout and files rest on one fact of it: zeros have the check 0 0.
 use mathlib.Core.List.{List, [], _∷_}
 use Prim.Native.Nat.{ℕ, _+_, _%_}
 use Rattle.std.specs.shelf.Lists.{sum}

@@ -84,7 +84,8 @@ impl BlockFile {
 
     // Gives the memory back.
     pub fn into_bytes(self) -> Vec<u8>
-        ensures { λ r. ⌜ r ≡ self .bytes ⌝ }
+        ensures value { λ r. ⌜ r ≡ self .bytes ⌝ }
+        ensures encoded { λ r. ⌜ Holds (vec-items r) (self .blocks) (fileHeld self) ⌝ }
     {
         let BlockFile {
             bytes,
