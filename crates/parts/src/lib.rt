@@ -1,4 +1,6 @@
 // Messages as parts that are told one by one: to a meter, which adds up how long they are, or to a printer, which puts them into a sink.
+#![tactic(auto)]
+
 ghost use Rattle.std.specs.Prelude.{◌≡◌, List, [], ◌∷◌, length};
 ghost use Rattle.parts.specs.Takers.{Laws, Tells};
 ghost use Rattle.parts.specs.Told.{parts_of};

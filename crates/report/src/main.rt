@@ -1,4 +1,6 @@
 // Lists values as a message does, keeps the line in a record, and shows it on the sheets that are chosen.
+#![tactic(auto)]
+
 mod files;
 mod shown;
 mod statement;

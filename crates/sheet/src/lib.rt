@@ -1,4 +1,6 @@
 // Sheets show the parts of a message as bytes: what a sheet is, when it is legible, and the three sheets.
+#![tactic(auto)]
+
 ghost use Rattle.std.specs.Prelude.{◌≡◌, ℕ, List, length};
 ghost use Rattle.sheet.specs.Parts.{Part};
 ghost use Rattle.sheet.specs.Roles.{part_of};

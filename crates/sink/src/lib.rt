@@ -1,4 +1,6 @@
 // Sinks take bytes up to a limit: what a sink means, a byte area, and a file of checked blocks.
+#![tactic(auto)]
+
 ghost use Rattle.std.specs.Prelude.{◌≡◌, ℕ, ◌≤◌, List, MatchResult};
 ghost use Rattle.sink.specs.Outcome.{Adds, Short};
 ghost use Rattle.util.specs.Lengths.{exact};

@@ -1,4 +1,6 @@
 // Examples by table: shown forms, packed lists, maps and styles.
+#![tactic(auto)]
+
 #[cfg(test)]
 mod maps;
 #[cfg(test)]

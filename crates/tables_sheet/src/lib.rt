@@ -1,4 +1,6 @@
 // Examples by table: sheets, messages of several parts, kinds and keys.
+#![tactic(auto)]
+
 #[cfg(test)]
 mod kinds;
 #[cfg(test)]

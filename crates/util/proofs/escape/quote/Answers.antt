@@ -8,20 +8,20 @@ use Rattle.util.proofs.escape.quote.Goals as goal
 pub loop-b-init : goal.loop-b-init
 loop-b-init c = written_none c.args.value.now c.args.out.now (omega (arith, inner_fits c.args.value.now 0, c.requires))
 
-pub overflow-add-at : goal.overflow-add-at
-overflow-add-at c =
+pub overflow_add-at : goal.overflow_add-at
+overflow_add-at c =
     let h = byte_fits c.args.value.now c.loop-b.b-index c.loop-b-test.true in
     let l = length-set c.args.out.now 0 34 in
     search rules
 
-pub slice-bounds-copy-from-slice-end : goal.slice-bounds-copy-from-slice-end
-slice-bounds-copy-from-slice-end c =
+pub slice_bounds-copy_from_slice-end : goal.slice_bounds-copy_from_slice-end
+slice_bounds-copy_from_slice-end c =
     let h = byte_fits c.args.value.now c.loop-b.b-index c.loop-b-test.true in
     let l = length-set c.args.out.now 0 34 in
     search rules
 
-pub overflow-add-at-in-loop-b : goal.overflow-add-at-in-loop-b
-overflow-add-at-in-loop-b c =
+pub overflow_add-at-in-loop-b : goal.overflow_add-at-in-loop-b
+overflow_add-at-in-loop-b c =
     let h = byte_fits c.args.value.now c.loop-b.b-index c.loop-b-test.true in
     let l = length-set c.args.out.now 0 34 in
     search rules
@@ -32,10 +32,10 @@ loop-b-preserved c =
     let i = c.loop-b.b-index in
     let h = byte_fits v i c.loop-b-test.true in
     let l = length-set c.args.out.now 0 34 in
-    let e : c.copy-from-slice.new.self ≡ quote_byte (get_or v i 0) =
-    c.copy-from-slice.ensures.after ∙ ap (λ (k : ℕ). take k c.quote-byte-q.result.bytes) (sub-zero c.quote-byte-q.result.len) ∙ c.quote-byte-q.ensures.value in
-    let n = c.quote-byte-q.ensures.len in
-    written_more v _ c.loop-b.out c.copy-from-slice.new.self i c.loop-b.at _ _ c.loop-b-test.true (omega arith) e (ap length e ∙ omega (arith, n)) (omega arith) c.loop-b.invariant
+    let e : c.copy_from_slice.new.self ≡ quote_byte (get_or v i 0) =
+    c.copy_from_slice.ensures.after ∙ ap (λ (k : ℕ). take k c.quote_byte-q.result.bytes) (sub-zero c.quote_byte-q.result.len) ∙ c.quote_byte-q.ensures.value in
+    let n = c.quote_byte-q.ensures.len in
+    written_more v _ c.loop-b.out c.copy_from_slice.new.self i c.loop-b.at _ _ c.loop-b-test.true (omega arith) e (ap length e ∙ omega (arith, n)) (omega arith) c.loop-b.invariant
 
 pub bounds-out-at : goal.bounds-out-at
 bounds-out-at c =

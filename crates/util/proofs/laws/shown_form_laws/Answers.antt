@@ -6,7 +6,7 @@ pub returns : goal.returns
 returns c = record {
   reads = literal_quoted;
   prints = quoted_prints;
-  in-line = shown_in_line;
+  in_line = shown_in_line;
   text = shown_text;
   bound = shown_bound;
   alike = shown_alike;

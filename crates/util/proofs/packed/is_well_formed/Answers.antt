@@ -8,9 +8,9 @@ loop-preserved c = c.loop.invariant ∙ formed_next c.loop.items.rest.now _ c.ne
 
 pub returns : goal.returns
 returns c =
-    let e = c.in-default.ensures.first in
+    let e = c.in_default.ensures.first in
     record {
-      value = c.is-empty.ensures ∙ ap (λ (s : List ℕ). eqb (length s) 0) (c.rest.ensures ∙ e.1)
+      value = c.is_empty.ensures ∙ ap (λ (s : List ℕ). eqb (length s) 0) (c.rest.ensures ∙ e.1)
           ∙ sym (formed_stop c.loop.items.rest.now e.0) ∙ sym c.loop.invariant;
-      back = λ ts q. (items_are c.args.list.now ts q, pack_unpacked c.args.list.now ts (λ k. omega (arith, c.type-inv.list k)) q);
+      back = λ ts q. (items_are c.args.list.now ts q, pack_unpacked c.args.list.now ts (λ k. omega (arith, c.type_inv.list k)) q);
     }

@@ -11,10 +11,10 @@ pub returns : goal.returns
 returns c =
     let xs = vec_items c.args.list.now in
     let t = c.args.item.now in
-    let e : vec_items c.extend-from-slice.new.self ≡ xs ++ pack_item t =
-    c.in-ok-extend-from-slice.ensures.items
-    ∙ ap (λ (l : List ℕ). l ++ t) (c.push-reserved-2.ensures.items
-    ∙ ap (λ (l : List ℕ). l ++ length t % 256 ∷ []) (c.push-reserved.ensures.items
+    let e : vec_items c.extend_from_slice.new.self ≡ xs ++ pack_item t =
+    c.in_ok-extend_from_slice.ensures.items
+    ∙ ap (λ (l : List ℕ). l ++ t) (c.push_reserved-2.ensures.items
+    ∙ ap (λ (l : List ℕ). l ++ length t % 256 ∷ []) (c.push_reserved.ensures.items
     ∙ ap (λ (l : List ℕ). l ++ length t / 256 ∷ []) c.reserve.ensures.items))
     ∙ pushed xs t (length t / 256) (length t % 256) in
     record {

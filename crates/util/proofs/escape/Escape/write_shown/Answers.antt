@@ -9,28 +9,28 @@ use Rattle.util.proofs.escape.Escape.write_shown.Goals as goal
 pub quote-requires : goal.quote-requires
 quote-requires c =
     let v = c.args.self.now.0.now in
-    let e : c.in-ok-len.len ≡ length (shown v) = from_exact (length (shown v)) c.in-ok-len.len c.in-ok-len.ensures in
-    omega (arith, ap length (shown_quoted v (sym c.if-needs-escaping.ensures)), c.if-len-out.false)
+    let e : c.in_ok-len.len ≡ length (shown v) = from_exact (length (shown v)) c.in_ok-len.len c.in_ok-len.ensures in
+    omega (arith, ap length (shown_quoted v (sym c.if-needs_escaping.ensures)), c.if-len-out.false)
 
-pub copy-from-slice-requires : goal.copy-from-slice-requires
-copy-from-slice-requires c =
+pub copy_from_slice-requires : goal.copy_from_slice-requires
+copy_from_slice-requires c =
     let v = c.args.self.now.0.now in
-    let e : c.in-ok-len.len ≡ length (shown v) = from_exact (length (shown v)) c.in-ok-len.len c.in-ok-len.ensures in
-    length-take-le _ c.args.out.now (omega (arith, c.if-len-out.false)) ∙ sub-zero c.in-ok-len.len ∙ e ∙ ap length (shown_plain v (sym c.if-needs-escaping.ensures))
+    let e : c.in_ok-len.len ≡ length (shown v) = from_exact (length (shown v)) c.in_ok-len.len c.in_ok-len.ensures in
+    length-take-le _ c.args.out.now (omega (arith, c.if-len-out.false)) ∙ sub-zero c.in_ok-len.len ∙ e ∙ ap length (shown_plain v (sym c.if-needs_escaping.ensures))
 
-pub returns-then-needs-escaping : goal.returns-then-needs-escaping
-returns-then-needs-escaping c =
+pub returns-then-needs_escaping : goal.returns-then-needs_escaping
+returns-then-needs_escaping c =
     let v = c.args.self.now.0.now in
-    let e : c.in-ok-len.len ≡ length (shown v) = from_exact (length (shown v)) c.in-ok-len.len c.in-ok-len.ensures in
-    let q = sym (shown_quoted v (sym c.if-needs-escaping.ensures)) in
+    let e : c.in_ok-len.len ≡ length (shown v) = from_exact (length (shown v)) c.in_ok-len.len c.in_ok-len.ensures in
+    let q = sym (shown_quoted v (sym c.if-needs_escaping.ensures)) in
     (e, c.quote.ensures ∙ ap (λ (l : List ℕ). l ++ drop (length l) c.args.out.now) q ∙ ap (λ (k : ℕ). shown v ++ drop k c.args.out.now) (sym e))
 
-pub returns-else-needs-escaping : goal.returns-else-needs-escaping
-returns-else-needs-escaping c =
+pub returns-else-needs_escaping : goal.returns-else-needs_escaping
+returns-else-needs_escaping c =
     let v = c.args.self.now.0.now in
-    let e : c.in-ok-len.len ≡ length (shown v) = from_exact (length (shown v)) c.in-ok-len.len c.in-ok-len.ensures in
-    let q = sym (shown_plain v (sym c.if-needs-escaping.ensures)) in (
+    let e : c.in_ok-len.len ≡ length (shown v) = from_exact (length (shown v)) c.in_ok-len.len c.in_ok-len.ensures in
+    let q = sym (shown_plain v (sym c.if-needs_escaping.ensures)) in (
       e,
-      ap (λ (k : ℕ). c.copy-from-slice.new.self ++ drop k c.args.out.now) (sub-zero c.in-ok-len.len)
-          ∙ ap (λ (l : List ℕ). l ++ drop c.in-ok-len.len c.args.out.now) (c.copy-from-slice.ensures.after ∙ q),
+      ap (λ (k : ℕ). c.copy_from_slice.new.self ++ drop k c.args.out.now) (sub-zero c.in_ok-len.len)
+          ∙ ap (λ (l : List ℕ). l ++ drop c.in_ok-len.len c.args.out.now) (c.copy_from_slice.ensures.after ∙ q),
     )

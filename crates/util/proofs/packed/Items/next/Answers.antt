@@ -4,8 +4,8 @@ use Rattle.util.specs.Packed.{first_item}
 use Rattle.util.proofs.Unpacks.{first_is, first_short, first_cut, begins, length_begins, items_next, items_stop}
 use Rattle.util.proofs.packed.Items.next.Goals as goal
 
-pub returns-in-default : goal.returns-in-default
-returns-in-default c =
+pub returns-in_default : goal.returns-in_default
+returns-in_default c =
     let e : first_item c.args.self.now.rest.now ≡ None = first_short c.args.self.now.rest.now (search rules) in
     record { first = (e, refl); items = items_stop _ e; bound = tt }
 
@@ -18,13 +18,13 @@ returns-then-n-rest c =
 pub returns : goal.returns
 returns c =
     let bs = c.args.self.now.rest.now in
-    let x = c.split-at.result.0.now in
-    let y = c.split-at.result.1.now in
+    let x = c.split_at.result.0.now in
+    let y = c.split_at.result.1.now in
     let e : first_item bs ≡ Some (x, y) = first_is bs _ c.from.result c.from-2.result x y
     (take_rest bs 2) (search rules) c.from.ensures c.from-2.ensures
-    c.if-n-rest.false c.split-at.ensures.front c.split-at.ensures.back in
+    c.if-n-rest.false c.split_at.ensures.front c.split_at.ensures.back in
     record {
       first = e;
       items = items_next bs x y e;
-      bound = (omega (arith, c.split-at.ensures.front-len, c.from.ensures, c.from-2.ensures), omega (arith, length_begins bs x y (begins bs x y e)));
+      bound = (omega (arith, c.split_at.ensures.front_len, c.from.ensures, c.from-2.ensures), omega (arith, length_begins bs x y (begins bs x y e)));
     }
