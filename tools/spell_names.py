@@ -13,8 +13,9 @@ import re
 import sys
 
 WORD = re.compile(r"[A-Za-z_][\w'\-≢≡]*")
-HEAD = re.compile(r"^(?:(?:unfoldable|abbrev|pub|data|record|axiom|ruleset)\s+)*([^\s:(){}]+)(?=\s+:(?:\s|$)|\s+[({].*\s:\s+Type)")
-MEMBER = re.compile(r"^  (?:pub )?([A-Za-z][^\s:]*) : ")
+HEAD = re.compile(
+    r"^(?:  |    )?(?:(?:unfoldable|abbrev|pub|data|record|axiom|ruleset)\s+)*([^\s:(){}]+)(?=\s+:(?:\s|$)|\s+[({].*\s:\s+Type)"
+)
 
 
 def files(ending, tops=("crates",)):
@@ -40,11 +41,9 @@ def declared():
         for line in read(path).splitlines():
             if re.search(r":\s*goal\.", line):
                 continue
-            head = None if line.startswith((" ", "use ", "mod ", "pub mod ", "--", "infix")) else HEAD.match(line)
-            member = MEMBER.match(line)
-            for it in (head, member):
-                if it:
-                    found[it.group(1)].add(path)
+            it = HEAD.match(line)
+            if it and not line.lstrip().startswith(("use ", "mod ", "pub mod ", "module ", "--", "infix", "let ", "λ", "in ")):
+                found[it.group(1)].add(path)
     return found
 
 
