@@ -4,8 +4,9 @@
 usage: python3 tools/spell_names.py      once, at the top, after /opt/rattle/port/port.py
 
 A definition, lemma, constructor or field is in snake case (isText, pack-unpacked: is_text, pack_unpacked), a type or
-a law in camel case (Pack-unpack: PackUnpack). Names of goals, which Rattle makes, and all names of src/ stay. It
-stops, and writes nothing, where two names would fall together. In pages only names between backticks are turned.
+a law in camel case (Pack-unpack: PackUnpack). Names of goals, which Rattle makes, and all names of src/ stay. Where a
+lemma would get the name of a definition, it gets _lem behind it; where other names would fall together, the script
+stops and writes nothing. In pages only names between backticks are turned.
 """
 import collections
 import os
@@ -16,6 +17,7 @@ WORD = re.compile(r"[A-Za-z_][\w'\-≢≡]*")
 HEAD = re.compile(
     r"^(?:  |    )?(?:(?:unfoldable|abbrev|pub|data|record|axiom|ruleset)\s+)*([^\s:(){}]+)(?=\s+:(?:\s|$)|\s+[({].*\s:\s+Type)"
 )
+SEVERAL = re.compile(r"^  (?:pub )?([A-Za-z][\w'-]*(?: [A-Za-z][\w'-]*)+)(?= : )")
 
 
 def files(ending, tops=("crates",)):
@@ -41,9 +43,10 @@ def declared():
         for line in read(path).splitlines():
             if re.search(r":\s*goal\.", line):
                 continue
-            it = HEAD.match(line)
+            it = SEVERAL.match(line) or HEAD.match(line)
             if it and not line.lstrip().startswith(("use ", "mod ", "pub mod ", "module ", "--", "infix", "let ", "λ", "in ")):
-                found[it.group(1)].add(path)
+                for name in it.group(1).split():
+                    found[name].add(path)
     return found
 
 
@@ -56,14 +59,18 @@ def spelled(name):
 
 def main():
     names = declared()
-    to = {n: spelled(n) for n in names if spelled(n) != n}
     back = collections.defaultdict(set)
     for n in names:
         back[spelled(n)].add(n)
-    clash = {n: sorted(olds) for n, olds in back.items() if len(olds) > 1}
-    if clash:
-        print(f"names that fall together: {clash}")
-        return 1
+    to = {n: new for new, olds in back.items() for n in olds if n != new}
+    for new, olds in back.items():
+        if len(olds) > 1:
+            words = [n for n in olds if any("/specs/" in path for path in names[n])]
+            lemmas = [n for n in olds if n not in words]
+            if len(words) != 1 or len(lemmas) != 1:
+                print(f"names that fall together: {sorted(olds)}")
+                return 1
+            to[lemmas[0]] = new + "_lem"
     turn = lambda m: to.get(m.group(0), m.group(0))
     changed = 0
     for path in [*files((".antt", ".rt"))]:

@@ -8,7 +8,7 @@ use Rattle.std.proofs.lemmas.List.{append_assoc}
 use Rattle.sheet.specs.Loops.{many, many_reads}
 use Rattle.sheet.specs.Parts.{Text, Label, valid, invalid, literal, Part, labelled, byte, erased}
 use Rattle.account.specs.Account.{the_argument, the_subcommand, nobody, Prior, absent, several, one, others, Detail, listed, because, kind_of, Signed64, numbers_of, numbers_in}
-use Rattle.account.specs.Account.{Worded, invalidValue, unknownArgument, invalidSubcommand, noEquals, valueValidation, tooManyValues, tooFewValues, wrongNumberOfValues, missingRequiredArgument, missingSubcommand, invalidUtf8}
+use Rattle.account.specs.Account.{Worded, invalid_value, unknown_argument, invalid_subcommand, no_equals, value_validation, too_many_values, too_few_values, wrong_number_of_values, missing_required_argument, missing_subcommand, invalid_utf8}
 use Rattle.account.specs.Account.{Statement, repeat, clash, equals, empty, pair, strange, missing, childless, extra, few, count, found, wording, given_text, unknown}
 use Rattle.account.specs.Account.{Opening, says, ready_text}
 use Rattle.account.specs.Kinds.{wording_of}
@@ -119,8 +119,8 @@ read_statement = first_of
     ∷ lit (codes "unexpected value '") (hole λ v. lit (codes "' for '") (hole λ a. lit (codes "' found; no more were expected") (λ s. some (extra v a, s))))
     ∷ lit (codes "unexpected argument '") (hole λ a. lit (codes "' found") (λ s. some (found a, s)))
     ∷ lit (codes "unknown cause") (λ s. some (unknown, s))
-    ∷ read_wording invalidValue ∷ read_wording unknownArgument ∷ read_wording invalidSubcommand ∷ read_wording noEquals ∷ read_wording valueValidation ∷ read_wording tooManyValues
-    ∷ read_wording tooFewValues ∷ read_wording wrongNumberOfValues ∷ read_wording missingRequiredArgument ∷ read_wording missingSubcommand ∷ read_wording invalidUtf8
+    ∷ read_wording invalid_value ∷ read_wording unknown_argument ∷ read_wording invalid_subcommand ∷ read_wording no_equals ∷ read_wording value_validation ∷ read_wording too_many_values
+    ∷ read_wording too_few_values ∷ read_wording wrong_number_of_values ∷ read_wording missing_required_argument ∷ read_wording missing_subcommand ∷ read_wording invalid_utf8
     ∷ hole (λ m. lit (codes " values required by '") (hole λ a. lit (codes "'; only ") (hole λ c. read_provided (λ s. some (few (number m) a (number c), s)))))
     ∷ hole (λ m. lit (codes " values required for '") (hole λ a. lit (codes "' but ") (hole λ c. read_provided (λ s. some (count (number m) a (number c), s)))))
     ∷ hole (λ t s. some (given_text t, s))
@@ -139,19 +139,19 @@ count_reads m a c true s = refl
 count_reads m a c false s = refl
 
 wording_reads : (w : Worded) {s : Stream} → AtTips s → read_statement (erased (stated (wording w)) ++ s) ≡ some (wording w, s)
-wording_reads invalidValue h = refl
-wording_reads unknownArgument h = refl
-wording_reads invalidSubcommand no_line = refl
-wording_reads invalidSubcommand line = refl
-wording_reads invalidSubcommand empty_line = refl
-wording_reads noEquals h = refl
-wording_reads valueValidation h = refl
-wording_reads tooManyValues h = refl
-wording_reads tooFewValues h = refl
-wording_reads wrongNumberOfValues h = refl
-wording_reads missingRequiredArgument h = refl
-wording_reads missingSubcommand h = refl
-wording_reads invalidUtf8 h = refl
+wording_reads invalid_value h = refl
+wording_reads unknown_argument h = refl
+wording_reads invalid_subcommand no_line = refl
+wording_reads invalid_subcommand line = refl
+wording_reads invalid_subcommand empty_line = refl
+wording_reads no_equals h = refl
+wording_reads value_validation h = refl
+wording_reads too_many_values h = refl
+wording_reads too_few_values h = refl
+wording_reads wrong_number_of_values h = refl
+wording_reads missing_required_argument h = refl
+wording_reads missing_subcommand h = refl
+wording_reads invalid_utf8 h = refl
 
 statement_reads : (x : Statement) {s : Stream} → AtTips s → All Signed64 (numbers_of x) → read_statement (erased (stated x) ++ s) ≡ some (x, s)
 statement_reads (repeat a) h f = refl

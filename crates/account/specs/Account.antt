@@ -26,8 +26,8 @@ pub data Detail : Type 0 where
 
 -- the kinds whose wording is a statement of its own; that of ArgumentConflict is the clash of nobody, with what is absent
 pub data Worded : Type 0 where
-  invalidValue unknownArgument invalidSubcommand noEquals valueValidation tooManyValues tooFewValues wrongNumberOfValues : Worded
-  missingRequiredArgument missingSubcommand invalidUtf8 : Worded
+  invalid_value unknown_argument invalid_subcommand no_equals value_validation too_many_values too_few_values wrong_number_of_values : Worded
+  missing_required_argument missing_subcommand invalid_utf8 : Worded
 
 -- what went wrong
 pub data Statement : Type 0 where
@@ -121,32 +121,32 @@ pub record Proper (a : Account) : Type 0 where
 
 -- the kind with that wording
 abbrev pub kind_of : Worded → ErrorKind
-kind_of invalidValue = kind.InvalidValue
-kind_of unknownArgument = kind.UnknownArgument
-kind_of invalidSubcommand = kind.InvalidSubcommand
-kind_of noEquals = kind.NoEquals
-kind_of valueValidation = kind.ValueValidation
-kind_of tooManyValues = kind.TooManyValues
-kind_of tooFewValues = kind.TooFewValues
-kind_of wrongNumberOfValues = kind.WrongNumberOfValues
-kind_of missingRequiredArgument = kind.MissingRequiredArgument
-kind_of missingSubcommand = kind.MissingSubcommand
-kind_of invalidUtf8 = kind.InvalidUtf8
+kind_of invalid_value = kind.InvalidValue
+kind_of unknown_argument = kind.UnknownArgument
+kind_of invalid_subcommand = kind.InvalidSubcommand
+kind_of no_equals = kind.NoEquals
+kind_of value_validation = kind.ValueValidation
+kind_of too_many_values = kind.TooManyValues
+kind_of too_few_values = kind.TooFewValues
+kind_of wrong_number_of_values = kind.WrongNumberOfValues
+kind_of missing_required_argument = kind.MissingRequiredArgument
+kind_of missing_subcommand = kind.MissingSubcommand
+kind_of invalid_utf8 = kind.InvalidUtf8
 
 -- what a kind's wording says; five kinds have none
 abbrev pub worded : ErrorKind → Option Statement
-worded kind.InvalidValue = Some (wording invalidValue)
-worded kind.UnknownArgument = Some (wording unknownArgument)
-worded kind.InvalidSubcommand = Some (wording invalidSubcommand)
-worded kind.NoEquals = Some (wording noEquals)
-worded kind.ValueValidation = Some (wording valueValidation)
-worded kind.TooManyValues = Some (wording tooManyValues)
-worded kind.TooFewValues = Some (wording tooFewValues)
-worded kind.WrongNumberOfValues = Some (wording wrongNumberOfValues)
+worded kind.InvalidValue = Some (wording invalid_value)
+worded kind.UnknownArgument = Some (wording unknown_argument)
+worded kind.InvalidSubcommand = Some (wording invalid_subcommand)
+worded kind.NoEquals = Some (wording no_equals)
+worded kind.ValueValidation = Some (wording value_validation)
+worded kind.TooManyValues = Some (wording too_many_values)
+worded kind.TooFewValues = Some (wording too_few_values)
+worded kind.WrongNumberOfValues = Some (wording wrong_number_of_values)
 worded kind.ArgumentConflict = Some (clash nobody absent)
-worded kind.MissingRequiredArgument = Some (wording missingRequiredArgument)
-worded kind.MissingSubcommand = Some (wording missingSubcommand)
-worded kind.InvalidUtf8 = Some (wording invalidUtf8)
+worded kind.MissingRequiredArgument = Some (wording missing_required_argument)
+worded kind.MissingSubcommand = Some (wording missing_subcommand)
+worded kind.InvalidUtf8 = Some (wording invalid_utf8)
 worded kind.DisplayHelp = None
 worded kind.DisplayHelpOnMissingArgumentOrSubcommand = None
 worded kind.DisplayVersion = None

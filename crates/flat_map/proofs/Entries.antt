@@ -76,8 +76,8 @@ module _ {K V : Type 0} where
   -- one entry more, behind the n that there are
   pub record Pushed (ks ks' : List K) (vs vs' : List V) (count n : ℕ) (k : K) (v : V) : Type 0 where
     pub is : entries ks' vs' (n + 1) ≡ entries ks vs count ++ (k, v) ∷ []
-    pub spare_keys : drop (length (entries ks' vs' (n + 1))) ks' ≡ drop (length (entries ks' vs' (n + 1))) ks
-    pub spare_values : drop (length (entries ks' vs' (n + 1))) vs' ≡ drop (length (entries ks' vs' (n + 1))) vs
+    pub spare_keys_lem : drop (length (entries ks' vs' (n + 1))) ks' ≡ drop (length (entries ks' vs' (n + 1))) ks
+    pub spare_values_lem : drop (length (entries ks' vs' (n + 1))) vs' ≡ drop (length (entries ks' vs' (n + 1))) vs
 
   pub entries_push : (ks ks' : List K) (vs vs' : List V) (count n : ℕ) (k : K) (v : V) → n ≡ length (entries ks vs count) → n < length ks → n < length vs
       → ks' ≡ set ks n k → vs' ≡ set vs n v → Pushed ks ks' vs vs' count n k v
@@ -89,8 +89,8 @@ module _ {K V : Type 0} where
       let lt : n < length (entries ks' vs' (n + 1)) = omega (arith, ap length is, length_push (entries ks vs count) (k, v)) in
       record {
         is = is;
-        spare_keys = ap (drop (length (entries ks' vs' (n + 1)))) e ∙ drop-set-lt (length (entries ks' vs' (n + 1))) ks n k lt;
-        spare_values = ap (drop (length (entries ks' vs' (n + 1)))) f ∙ drop-set-lt (length (entries ks' vs' (n + 1))) vs n v lt;
+        spare_keys_lem = ap (drop (length (entries ks' vs' (n + 1)))) e ∙ drop-set-lt (length (entries ks' vs' (n + 1))) ks n k lt;
+        spare_values_lem = ap (drop (length (entries ks' vs' (n + 1)))) f ∙ drop-set-lt (length (entries ks' vs' (n + 1))) vs n v lt;
       }
     where
       by : (ks : List K) (vs : List V) (n : ℕ) → n < length ks → n < length vs → entries (set ks n k) (set vs n v) (suc n) ≡ entries ks vs n ++ (k, v) ∷ []
@@ -105,9 +105,9 @@ module _ {K V : Type 0} where
     at ps = first (λ x. same x k) (map (λ p. p.0) ps)
 
     -- the value there is the key's, where i is that place in the keys
-    pub lookup-at : (ks : List K) (vs : List V) (ps : List (K × V)) (i : ℕ) → ks ≡ map (λ p. p.0) ps → vs ≡ map (λ p. p.1) ps → i ≡ first (λ x. same x k) ks
+    pub lookup_at : (ks : List K) (vs : List V) (ps : List (K × V)) (i : ℕ) → ks ≡ map (λ p. p.0) ps → vs ≡ map (λ p. p.1) ps → i ≡ first (λ x. same x k) ks
         → slice_get vs i ≡ lookup same ps k
-    lookup-at ks vs ps i e f t = ap (λ (l : List V). slice_get l i) f ∙ ap (λ (j : ℕ). slice_get (map (λ p. p.1) ps) j) (t ∙ ap (first (λ x. same x k)) e) ∙ by ps
+    lookup_at ks vs ps i e f t = ap (λ (l : List V). slice_get l i) f ∙ ap (λ (j : ℕ). slice_get (map (λ p. p.1) ps) j) (t ∙ ap (first (λ x. same x k)) e) ∙ by ps
       where
         by : (ps : List (K × V)) → slice_get (map (λ p. p.1) ps) (at ps) ≡ lookup same ps k
         by [] = refl
@@ -115,29 +115,29 @@ module _ {K V : Type 0} where
             elim (same p.0 k) as (λ (b : Bool). slice_get (p.1 ∷ map (λ p. p.1) ps) (cond b 0 (suc (at ps))) ≡ cond b (Some p.1) (lookup same ps k)) [ true ↦ refl | false ↦ by ps ]
 
     -- so it is looked up in vain exactly if that place is past the last entry
-    pub lookup-past : (ps : List (K × V)) → length ps ≤ at ps → lookup same ps k ≡ None
-    lookup-past ps h = sym (lookup-at _ _ ps (at ps) refl refl refl) ∙ slice_get_past (map (λ p. p.1) ps) (at ps) (omega (arith, length-map ps (λ p. p.1)))
+    pub lookup_past : (ps : List (K × V)) → length ps ≤ at ps → lookup same ps k ≡ None
+    lookup_past ps h = sym (lookup_at _ _ ps (at ps) refl refl refl) ∙ slice_get_past (map (λ p. p.1) ps) (at ps) (omega (arith, length-map ps (λ p. p.1)))
 
-    pub lookup-test : (ks : List K) (ps : List (K × V)) (i n : ℕ) → ks ≡ map (λ p. p.0) ps → i ≡ first (λ x. same x k) ks → n ≡ length ps → ltb i n ≡ is_some (lookup same ps k)
-    lookup-test ks ps i n e t l =
+    pub lookup_test : (ks : List K) (ps : List (K × V)) (i n : ℕ) → ks ≡ map (λ p. p.0) ps → i ≡ first (λ x. same x k) ks → n ≡ length ps → ltb i n ≡ is_some (lookup same ps k)
+    lookup_test ks ps i n e t l =
         let q : i ≡ at ps = t ∙ ap (first (λ x. same x k)) e in
         elim (cases_lt i n) [
           | inl h ↦ (let b : at ps < length (map (λ p. p.1) ps) = simp length-map (omega arith) in
-              lt-ltb i n h ∙ sym (ap is_some (sym (lookup-at _ _ ps (at ps) refl refl refl)) ∙ nth_some (map (λ p. p.1) ps) (at ps) b))
-          | inr h ↦ (le-ltb i n h ∙ sym (ap is_some (lookup-past ps (omega arith))))
+              lt-ltb i n h ∙ sym (ap is_some (sym (lookup_at _ _ ps (at ps) refl refl refl)) ∙ nth_some (map (λ p. p.1) ps) (at ps) b))
+          | inr h ↦ (le-ltb i n h ∙ sym (ap is_some (lookup_past ps (omega arith))))
         ]
 
-    pub lookup-held : (ks : List K) (vs : List V) (n i : ℕ) (d : V) → i ≡ at (entries ks vs n) → i < length (entries ks vs n) → Some (get_or vs i d) ≡ lookup same (entries ks vs n) k
-    lookup-held ks vs n i d e h =
+    pub lookup_held : (ks : List K) (vs : List V) (n i : ℕ) (d : V) → i ≡ at (entries ks vs n) → i < length (entries ks vs n) → Some (get_or vs i d) ≡ lookup same (entries ks vs n) k
+    lookup_held ks vs n i d e h =
         let m : ℕ = length (entries ks vs n) in
         let l : m ≡ length (take m vs) = sym (length-take-le m vs (omega (arith, length_entries ks vs n))) in
         sym (slice_get-get_or (take m vs) i d (omega arith) ∙ ap (λ (x : V). Some x) (get_or-take m vs i d h))
-        ∙ lookup-at _ (take m vs) (entries ks vs n) i refl (values_are ks vs n m refl) e
+        ∙ lookup_at _ (take m vs) (entries ks vs n) i refl (values_are ks vs n m refl) e
 
     -- the value is replaced there
-    pub put-held : (ks : List K) (vs : List V) (n i : ℕ) (v : V) → i ≡ at (entries ks vs n) → i < length (entries ks vs n)
+    pub put_held : (ks : List K) (vs : List V) (n i : ℕ) (v : V) → i ≡ at (entries ks vs n) → i < length (entries ks vs n)
         → entries ks (set vs i v) n ≡ put same (entries ks vs n) k v
-    put-held ks vs n i v e h = ap (λ (j : ℕ). entries ks (set vs j v) n) e ∙ by ks vs n (omega arith)
+    put_held ks vs n i v e h = ap (λ (j : ℕ). entries ks (set vs j v) n) e ∙ by ks vs n (omega arith)
       where
         by : (ks : List K) (vs : List V) (n : ℕ) → at (entries ks vs n) < length (entries ks vs n)
             → entries ks (set vs (at (entries ks vs n)) v) n ≡ put same (entries ks vs n) k v
@@ -151,28 +151,28 @@ module _ {K V : Type 0} where
             → entries (x ∷ ks) (set (y ∷ vs) (cond b 0 (suc (at (entries ks vs n)))) v) (suc n) ≡ cond b ((x, v) ∷ entries ks vs n) ((x, y) ∷ put same (entries ks vs n) k v))
             [ true ↦ λ _. refl | false ↦ λ q. ap (λ (l : List (K × V)). (x, y) ∷ l) (by ks vs n (omega arith)) ]) h
 
-    pub put-length : (ks : List K) (vs : List V) (n i : ℕ) (v : V) → length (entries ks (set vs i v) n) ≡ length (entries ks vs n)
-    put-length ks vs n i v = omega (arith, length_entries ks (set vs i v) n, length_entries ks vs n, length-set vs i v)
+    pub put_length : (ks : List K) (vs : List V) (n i : ℕ) (v : V) → length (entries ks (set vs i v) n) ≡ length (entries ks vs n)
+    put_length ks vs n i v = omega (arith, length_entries ks (set vs i v) n, length_entries ks vs n, length-set vs i v)
 
     -- the entry comes last
-    pub put-new : (ps : List (K × V)) (v : V) → length ps ≤ at ps → put same ps k v ≡ ps ++ (k, v) ∷ []
-    put-new [] v h = refl
-    put-new (p ∷ ps) v h =
+    pub put_new : (ps : List (K × V)) (v : V) → length ps ≤ at ps → put same ps k v ≡ ps ++ (k, v) ∷ []
+    put_new [] v h = refl
+    put_new (p ∷ ps) v h =
         (elim (same p.0 k) as (λ (b : Bool). suc (length ps) ≤ cond b 0 (suc (at ps)) → cond b ((p.0, v) ∷ ps) (p ∷ put same ps k v) ≡ p ∷ (ps ++ (k, v) ∷ []))
-        [ true ↦ λ q. absurd (omega arith) | false ↦ λ q. ap (λ (l : List (K × V)). p ∷ l) (put-new ps v (omega arith)) ]) h
+        [ true ↦ λ q. absurd (omega arith) | false ↦ λ q. ap (λ (l : List (K × V)). p ∷ l) (put_new ps v (omega arith)) ]) h
 
     -- the entry there is taken out
-    pub without-held : (ps : List (K × V)) → at ps < length ps → remove ps (at ps) ≡ without same ps k
-    without-held [] h = absurd (omega arith)
-    without-held (p ∷ ps) h =
+    pub without_held : (ps : List (K × V)) → at ps < length ps → remove ps (at ps) ≡ without same ps k
+    without_held [] h = absurd (omega arith)
+    without_held (p ∷ ps) h =
         (elim (same p.0 k) as (λ (b : Bool). cond b 0 (suc (at ps)) < suc (length ps) → remove (p ∷ ps) (cond b 0 (suc (at ps))) ≡ cond b ps (p ∷ without same ps k))
-        [ true ↦ λ _. refl | false ↦ λ q. ap (λ (l : List (K × V)). p ∷ l) (without-held ps (omega arith)) ]) h
+        [ true ↦ λ _. refl | false ↦ λ q. ap (λ (l : List (K × V)). p ∷ l) (without_held ps (omega arith)) ]) h
 
-    pub without-none : (ps : List (K × V)) → length ps ≤ at ps → without same ps k ≡ ps
-    without-none [] h = refl
-    without-none (p ∷ ps) h =
+    pub without_none : (ps : List (K × V)) → length ps ≤ at ps → without same ps k ≡ ps
+    without_none [] h = refl
+    without_none (p ∷ ps) h =
         (elim (same p.0 k) as (λ (b : Bool). suc (length ps) ≤ cond b 0 (suc (at ps)) → cond b ps (p ∷ without same ps k) ≡ p ∷ ps)
-        [ true ↦ λ q. absurd (omega arith) | false ↦ λ q. ap (λ (l : List (K × V)). p ∷ l) (without-none ps (omega arith)) ]) h
+        [ true ↦ λ q. absurd (omega arith) | false ↦ λ q. ap (λ (l : List (K × V)). p ∷ l) (without_none ps (omega arith)) ]) h
 
 length_removed : {X : Type 0} (xs : List X) (n i : ℕ) → n ≤ length xs → i < n → length (remove (take n xs) i) ≡ n - 1
 length_removed xs n i le h = search (rules, places)
@@ -180,8 +180,8 @@ length_removed xs n i le h = search (rules, places)
 -- The key's entry is taken out of both lists, and the place set free there holds x and y.
 pub record Closed {K V : Type 0} (ks ks' : List K) (vs vs' : List V) (count n i : ℕ) (x : K) (y : V) : Type 0 where
   pub is : entries ks' vs' (n - 1) ≡ remove (entries ks vs count) i
-  pub spare_keys : drop (length (entries ks' vs' (n - 1))) ks' ≡ x ∷ drop (length (entries ks vs count)) ks
-  pub spare_values : drop (length (entries ks' vs' (n - 1))) vs' ≡ y ∷ drop (length (entries ks vs count)) vs
+  pub spare_keys_lem : drop (length (entries ks' vs' (n - 1))) ks' ≡ x ∷ drop (length (entries ks vs count)) ks
+  pub spare_values_lem : drop (length (entries ks' vs' (n - 1))) vs' ≡ y ∷ drop (length (entries ks vs count)) vs
 
 module _ {K V : Type 0} where
   -- what lies behind the first n does not matter to them
@@ -226,8 +226,8 @@ module _ {K V : Type 0} where
       ) in
       record {
         is = is;
-        spare_keys = ap (λ (j : ℕ). drop j ks') size ∙ ap (drop (n - 1)) ke
+        spare_keys_lem = ap (λ (j : ℕ). drop j ks') size ∙ ap (drop (n - 1)) ke
             ∙ drop_at (remove (take n ks) i) (x ∷ drop n ks) (n - 1) (length_removed ks n i (omega arith) h) ∙ ap (λ (j : ℕ). x ∷ drop j ks) c;
-        spare_values = ap (λ (j : ℕ). drop j vs') size ∙ ap (drop (n - 1)) ve
+        spare_values_lem = ap (λ (j : ℕ). drop j vs') size ∙ ap (drop (n - 1)) ve
             ∙ drop_at (remove (take n vs) i) (y ∷ drop n vs) (n - 1) (length_removed vs n i (omega arith) h) ∙ ap (λ (j : ℕ). y ∷ drop j vs) c;
       }

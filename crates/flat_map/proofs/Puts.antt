@@ -2,7 +2,7 @@
 use Rattle.std.proofs.Common.{◌≡◌, ℕ, Bool, true, false, cond, List, [], ◌∷◌, Some, None, Decides, Option, sym, refl, ap, ◌∙◌, arith}
 use Rattle.std.proofs.lemmas.Bool.{cond-true, cond-false}
 use Rattle.flat_map.specs.Assoc.{lookup, put, without}
-use Rattle.flat_map.specs.Laws.{Put-found, Put-kept, Without-kept, Put-undone}
+use Rattle.flat_map.specs.Laws.{PutFound, PutKept, WithoutKept, PutUndone}
 
 module _ {K : Type 0} (V : Type 0) (same : K → K → Bool) (exact : (x y : K) → Decides (same x y) (x ≡ y)) where
   itself : (k : K) → same k k ≡ true
@@ -12,7 +12,7 @@ module _ {K : Type 0} (V : Type 0) (same : K → K → Bool) (exact : (x y : K) 
   other : (x k q : K) → same x k ≡ true → same k q ≡ false → same x q ≡ false
   other x k q e n = ap (λ (y : K). same y q) ((exact x k).0 e) ∙ n
 
-  pub put_found : Put-found V same
+  pub put_found : PutFound V same
   put_found [] k v = cond-true (same k k) (Some v) None (itself k)
   put_found (p ∷ ps) k v = by (same p.0 k) refl (put_found ps k v)
     where
@@ -20,7 +20,7 @@ module _ {K : Type 0} (V : Type 0) (same : K → K → Bool) (exact : (x y : K) 
       by true e h = cond-true (same p.0 k) (Some v) (lookup same ps k) e
       by false e h = cond-false (same p.0 k) (Some p.1) (lookup same (put same ps k v) k) e ∙ h
 
-  pub put_kept : Put-kept V same
+  pub put_kept : PutKept V same
   put_kept [] k q v n = cond-false (same k q) (Some v) None n
   put_kept (p ∷ ps) k q v n = by (same p.0 k) refl (put_kept ps k q v n)
     where
@@ -31,7 +31,7 @@ module _ {K : Type 0} (V : Type 0) (same : K → K → Bool) (exact : (x y : K) 
           cond-false (same p.0 q) (Some v) (lookup same ps q) d ∙ sym (cond-false (same p.0 q) (Some p.1) (lookup same ps q) d)
       by false e h = ap (λ (o : Option V). cond (same p.0 q) (Some p.1) o) h
 
-  pub without_kept : Without-kept V same
+  pub without_kept : WithoutKept V same
   without_kept [] k q n = refl
   without_kept (p ∷ ps) k q n = by (same p.0 k) refl (without_kept ps k q n)
     where
@@ -40,7 +40,7 @@ module _ {K : Type 0} (V : Type 0) (same : K → K → Bool) (exact : (x y : K) 
       by true e h = sym (cond-false (same p.0 q) (Some p.1) (lookup same ps q) (other p.0 k q e n))
       by false e h = ap (λ (o : Option V). cond (same p.0 q) (Some p.1) o) h
 
-  pub put_undone : Put-undone V same
+  pub put_undone : PutUndone V same
   put_undone [] k v none = cond-true (same k k) [] ((k, v) ∷ []) (itself k)
   put_undone (p ∷ ps) k v none = by (same p.0 k) refl none (put_undone ps k v)
     where

@@ -5,8 +5,8 @@ ghost use Rattle.std.specs.Prelude.{◌≡◌, ◌≤◌, min, Bool, [], ◌∷�
 ghost use Rattle.std.specs.List.{slice_get};
 ghost use Rattle.std.specs.Option.{option_map};
 ghost use Rattle.flat_map.specs.Assoc.{first, closed, entries, lookup, put, without};
-ghost use Rattle.flat_map.specs.Laws.{Put-found, Put-kept, Without-kept, Put-undone};
-ghost use Rattle.flat_map.specs.Maps.{entriesOf, places_of, Same-spare, Cleared, Same-memory, rest_of};
+ghost use Rattle.flat_map.specs.Laws.{PutFound, PutKept, WithoutKept, PutUndone};
+ghost use Rattle.flat_map.specs.Maps.{entries_of, places_of, SameSpare, Cleared, SameMemory, rest_of};
 
 // A key: `==` answers whether two keys are the same value.
 pub trait Key: PartialEq + Copy {
@@ -107,7 +107,7 @@ pub struct Iter<'k, 'v, K, V> {
 impl<'k, 'v, K: Key, V: Copy> FlatMap<'k, 'v, K, V> {
     // A map with no entry yet.
     pub fn new(keys: &'k mut [K], values: &'v mut [V], cleared: (K, V)) -> FlatMap<'k, 'v, K, V>
-        ensures entries { entriesOf result ≡ [] }
+        ensures entries { entries_of result ≡ [] }
         ensures keys { (result.keys.now ≡ keys.old) × (result.keys.ghost_name ≡ keys.entry.ghost_name) }
         ensures values { (result.values.now ≡ values.old) × (result.values.ghost_name ≡ values.entry.ghost_name) }
         ensures cleared { result.cleared ≡ cleared }
@@ -122,7 +122,7 @@ impl<'k, 'v, K: Key, V: Copy> FlatMap<'k, 'v, K, V> {
         count: usize,
         cleared: (K, V),
     ) -> FlatMap<'k, 'v, K, V>
-        ensures entries { entriesOf result ≡ entries keys.old values.old count }
+        ensures entries { entries_of result ≡ entries keys.old values.old count }
         ensures keys { (result.keys.now ≡ keys.old) × (result.keys.ghost_name ≡ keys.entry.ghost_name) }
         ensures values { (result.values.now ≡ values.old) × (result.values.ghost_name ≡ values.entry.ghost_name) }
         ensures cleared { result.cleared ≡ cleared }
@@ -137,22 +137,22 @@ impl<'k, 'v, K: Key, V: Copy> FlatMap<'k, 'v, K, V> {
 
     // How many entries there are.
     pub fn len(&self) -> usize
-        ensures value { result ≡ length (entriesOf self.now) }
-        ensures entries { entries self.now.keys.now self.now.values.now result ≡ entriesOf self.now }
+        ensures value { result ≡ length (entries_of self.now) }
+        ensures entries { entries self.now.keys.now self.now.values.now result ≡ entries_of self.now }
         ensures bound { (result ≤ length self.now.keys.now) × (result ≤ length self.now.values.now) }
     {
         bounded(self.count, self.keys.len(), self.values.len())
     }
 
     pub fn is_empty(&self) -> bool
-        ensures { result ≡ (length (entriesOf self.now) == 0) }
+        ensures { result ≡ (length (entries_of self.now) == 0) }
     {
         self.len() == 0
     }
 
     // The keys of the entries, in order.
     pub fn keys(&self) -> &[K]
-        ensures { result.now ≡ map (λ p. p.0) (entriesOf self.now) }
+        ensures { result.now ≡ map (λ p. p.0) (entries_of self.now) }
     {
         let n = self.len();
         &self.keys[0..n]
@@ -160,7 +160,7 @@ impl<'k, 'v, K: Key, V: Copy> FlatMap<'k, 'v, K, V> {
 
     // The values of the entries, in order.
     pub fn values(&self) -> &[V]
-        ensures { result.now ≡ map (λ p. p.1) (entriesOf self.now) }
+        ensures { result.now ≡ map (λ p. p.1) (entries_of self.now) }
     {
         let n = self.len();
         &self.values[0..n]
@@ -168,27 +168,27 @@ impl<'k, 'v, K: Key, V: Copy> FlatMap<'k, 'v, K, V> {
 
     // The entries one by one, in order.
     pub fn iter(&self) -> Iter<'_, '_, K, V>
-        ensures { rest_of result ≡ entriesOf self.now }
+        ensures { rest_of result ≡ entries_of self.now }
     {
         iter_in(&self.keys[..], &self.values[..], self.count)
     }
 
     pub fn contains_key(&self, key: K) -> bool
-        ensures { result ≡ is_some (lookup K.Key.same (entriesOf self.now) key) }
+        ensures { result ≡ is_some (lookup K.Key.same (entries_of self.now) key) }
     {
         find(self.keys(), key) < self.len()
     }
 
     // The value of the key.
     pub fn get(&self, key: K) -> Option<&V>
-        ensures { option_map (λ x. x.now) result ≡ lookup K.Key.same (entriesOf self.now) key }
+        ensures { option_map (λ x. x.now) result ≡ lookup K.Key.same (entries_of self.now) key }
     {
         get_in(&self.keys[..], &self.values[..], self.count, key)
     }
 
     // Where the key's entry is, or the number of entries.
     fn place(&self, key: K) -> usize
-        ensures { result ≡ first (λ x. K.Key.same x key) (map (λ p. p.0) (entriesOf self.now)) }
+        ensures { result ≡ first (λ x. K.Key.same x key) (map (λ p. p.0) (entries_of self.now)) }
     {
         find(self.keys(), key)
     }
@@ -196,10 +196,10 @@ impl<'k, 'v, K: Key, V: Copy> FlatMap<'k, 'v, K, V> {
     // Adds the entry last, without a search for its key.
     pub fn insert_unchecked(&mut self, key: K, value: V) -> Result<(), Full>
         ensures cases { MatchResult result
-            (λ _. entriesOf self.new ≡ entriesOf self.old ++ (key, value) ∷ [])
-            (λ _. (length (entriesOf self.old) ≡ places_of self.old) × (self.new ≡ self.old)) }
-        ensures spare { Same-spare self.old self.new }
-        ensures memory { Same-memory self.old self.new }
+            (λ _. entries_of self.new ≡ entries_of self.old ++ (key, value) ∷ [])
+            (λ _. (length (entries_of self.old) ≡ places_of self.old) × (self.new ≡ self.old)) }
+        ensures spare { SameSpare self.old self.new }
+        ensures memory { SameMemory self.old self.new }
     {
         let n = self.len();
         if n >= self.keys.len() || n >= self.values.len() {
@@ -214,10 +214,10 @@ impl<'k, 'v, K: Key, V: Copy> FlatMap<'k, 'v, K, V> {
     // Replaces the value of the key and answers the old one, or adds the entry last.
     pub fn insert(&mut self, key: K, value: V) -> Result<Option<V>, Full>
         ensures cases { MatchResult result
-            (λ old. (entriesOf self.new ≡ put K.Key.same (entriesOf self.old) key value) × (old ≡ lookup K.Key.same (entriesOf self.old) key))
-            (λ _. (lookup K.Key.same (entriesOf self.old) key ≡ None) × (length (entriesOf self.old) ≡ places_of self.old) × (self.new ≡ self.old)) }
-        ensures spare { Same-spare self.old self.new }
-        ensures memory { Same-memory self.old self.new }
+            (λ old. (entries_of self.new ≡ put K.Key.same (entries_of self.old) key value) × (old ≡ lookup K.Key.same (entries_of self.old) key))
+            (λ _. (lookup K.Key.same (entries_of self.old) key ≡ None) × (length (entries_of self.old) ≡ places_of self.old) × (self.new ≡ self.old)) }
+        ensures spare { SameSpare self.old self.new }
+        ensures memory { SameMemory self.old self.new }
     {
         let i = self.place(key);
         if i < self.len() {
@@ -231,10 +231,10 @@ impl<'k, 'v, K: Key, V: Copy> FlatMap<'k, 'v, K, V> {
 
     // Takes the key's entry out; the others keep their order, and the place that is set free is cleared.
     pub fn remove_entry(&mut self, key: K) -> Option<(K, V)>
-        ensures value { result ≡ option_map (λ v. (key, v)) (lookup K.Key.same (entriesOf self.old) key) }
-        ensures entries { entriesOf self.new ≡ without K.Key.same (entriesOf self.old) key }
+        ensures value { result ≡ option_map (λ v. (key, v)) (lookup K.Key.same (entries_of self.old) key) }
+        ensures entries { entries_of self.new ≡ without K.Key.same (entries_of self.old) key }
         ensures spare { MatchOption result (self.new ≡ self.old) (λ _. Cleared self.old self.new) }
-        ensures memory { Same-memory self.old self.new }
+        ensures memory { SameMemory self.old self.new }
     {
         let n = self.len();
         let i = self.place(key);
@@ -251,10 +251,10 @@ impl<'k, 'v, K: Key, V: Copy> FlatMap<'k, 'v, K, V> {
 
     // Takes the key's entry out, and answers its value.
     pub fn remove(&mut self, key: K) -> Option<V>
-        ensures value { result ≡ lookup K.Key.same (entriesOf self.old) key }
-        ensures entries { entriesOf self.new ≡ without K.Key.same (entriesOf self.old) key }
+        ensures value { result ≡ lookup K.Key.same (entries_of self.old) key }
+        ensures entries { entries_of self.new ≡ without K.Key.same (entries_of self.old) key }
         ensures spare { MatchOption result (self.new ≡ self.old) (λ _. Cleared self.old self.new) }
-        ensures memory { Same-memory self.old self.new }
+        ensures memory { SameMemory self.old self.new }
     {
         match self.remove_entry(key) {
             Some((_, value)) => Some(value),
@@ -284,8 +284,8 @@ impl<'k, 'v, K, V> Iter<'k, 'v, K, V> {
 
 // Laws of what a map's entries are after a put and after a removal, for every key and value type.
 pub fn entry_laws<K: Key, V: Copy>()
-    ensures put_found { Put-found V K.Key.same }
-    ensures put_kept { Put-kept V K.Key.same }
-    ensures without_kept { Without-kept V K.Key.same }
-    ensures put_undone { Put-undone V K.Key.same }
+    ensures put_found { PutFound V K.Key.same }
+    ensures put_kept { PutKept V K.Key.same }
+    ensures without_kept { WithoutKept V K.Key.same }
+    ensures put_undone { PutUndone V K.Key.same }
 {}

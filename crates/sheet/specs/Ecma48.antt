@@ -15,11 +15,11 @@ is_intermediate b = nat_le 32 b && nat_le b 47
 -- the display colours of parameters 30 to 37
 abbrev pub display_color : ℕ → Style → Style
 display_color n r =
-    cond (n == 30) (in-color Black) (cond (n == 31) (in-color Red) (cond (n == 32) (in-color Green) (cond (n == 33) (in-color Yellow)
-    (cond (n == 34) (in-color Blue) (cond (n == 35) (in-color Magenta) (cond (n == 36) (in-color Cyan) (cond (n == 37) (in-color White) r)))))))
+    cond (n == 30) (in_color Black) (cond (n == 31) (in_color Red) (cond (n == 32) (in_color Green) (cond (n == 33) (in_color Yellow)
+    (cond (n == 34) (in_color Blue) (cond (n == 35) (in_color Magenta) (cond (n == 36) (in_color Cyan) (cond (n == 37) (in_color White) r)))))))
   where
-    in-color : AnsiColor → Style
-    in-color c = record { bold = r.bold; underline = r.underline; color = Some c }
+    in_color : AnsiColor → Style
+    in_color c = record { bold = r.bold; underline = r.underline; color = Some c }
 
 -- one parameter: 0 is the default rendition, 1 bold, 4 underlined, 30 to 37 a colour; others are not for us
 abbrev pub select : Style → ℕ → Style

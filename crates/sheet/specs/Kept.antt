@@ -55,10 +55,10 @@ page_edges given = omega arith
 page_edges ready = omega arith
 
 pub page_bounded : (p : Part) → length (page p) ≤ 16 * length (text_of p) + 64
-page_bounded p = framing_bounded (λ l. start_tag (element l)) page_byte (λ l. end_tag (element l)) byte-bounded page_edges p
+page_bounded p = framing_bounded (λ l. start_tag (element l)) page_byte (λ l. end_tag (element l)) byte_bounded page_edges p
   where
-    byte-bounded : (b : ℕ) → length (page_byte b) ≤ 16
-    byte-bounded b =
+    byte_bounded : (b : ℕ) → length (page_byte b) ≤ 16
+    byte_bounded b =
         either_bounded (b == 38) _ _ (omega arith) (either_bounded (b == 60) _ _ (omega arith)
         (either_bounded (b == 62) _ _ (omega arith) (either_bounded (control b) _ _ (omega arith) (omega arith))))
 

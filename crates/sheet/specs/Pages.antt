@@ -66,26 +66,26 @@ abbrev spelt : ℕ → Text
 spelt b = codes "<s>" ++ (hex_digit (b / 16) ∷ hex_digit (b % 16) ∷ codes "</s>")
 
 byte_reads : (b : ℕ) (s : Text) → next_byte (page_byte b ++ s) ≡ some (b, s)
-byte_reads b s = at-amp (b == 38) refl
+byte_reads b s = at_amp (b == 38) refl
   where
     at_plain : nat_eq b 38 ≡ false → (b == 60) ≡ false → (v : Bool) → control b ≡ v → next_byte (cond v (spelt b) (b ∷ []) ++ s) ≡ some (b, s)
     at_plain p q true e = ap (λ n. some (n, s)) (two_digits b (control_small b e))
     at_plain p q false e = rw (p, q) refl
 
-    at-gt : nat_eq b 38 ≡ false → (b == 60) ≡ false → (v : Bool) → (b == 62) ≡ v →
+    at_gt : nat_eq b 38 ≡ false → (b == 60) ≡ false → (v : Bool) → (b == 62) ≡ v →
         next_byte (cond v (codes "&gt;") (cond (control b) (spelt b) (b ∷ [])) ++ s) ≡ some (b, s)
-    at-gt p q true e = ap (λ n. some (n, s)) (sym (eqb-true b 62 e))
-    at-gt p q false e = at_plain p q (control b) refl
+    at_gt p q true e = ap (λ n. some (n, s)) (sym (eqb-true b 62 e))
+    at_gt p q false e = at_plain p q (control b) refl
 
     at_lt : nat_eq b 38 ≡ false → (v : Bool) → (b == 60) ≡ v →
         next_byte (cond v (codes "&lt;") (cond (b == 62) (codes "&gt;") (cond (control b) (spelt b) (b ∷ []))) ++ s) ≡ some (b, s)
     at_lt p true e = ap (λ n. some (n, s)) (sym (eqb-true b 60 e))
-    at_lt p false e = at-gt p e (b == 62) refl
+    at_lt p false e = at_gt p e (b == 62) refl
 
-    at-amp : (v : Bool) → (b == 38) ≡ v →
+    at_amp : (v : Bool) → (b == 38) ≡ v →
         next_byte (cond v (codes "&amp;") (cond (b == 60) (codes "&lt;") (cond (b == 62) (codes "&gt;") (cond (control b) (spelt b) (b ∷ [])))) ++ s) ≡ some (b, s)
-    at-amp true e = ap (λ n. some (n, s)) (sym (eqb-true b 38 e))
-    at-amp false e = at_lt e (b == 60) refl
+    at_amp true e = ap (λ n. some (n, s)) (sym (eqb-true b 38 e))
+    at_amp false e = at_lt e (b == 60) refl
 
 long : (v : Bool) (x y : Text) → 1 ≤ length x → 1 ≤ length y → 1 ≤ length (cond v x y)
 long true x y g h = g

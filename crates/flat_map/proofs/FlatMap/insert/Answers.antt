@@ -1,7 +1,7 @@
 use Rattle.std.proofs.Common.{◌<◌, length, sym, refl, ◌∙◌, arith}
 use Rattle.std.proofs.lemmas.List.{length-set, drop-set-lt}
 use Rattle.std.proofs.lemmas.Result.{err_from_is_err_and}
-use Rattle.flat_map.proofs.Entries.{lookup-held, lookup-past, put-held, put-length, put-new}
+use Rattle.flat_map.proofs.Entries.{lookup_held, lookup_past, put_held, put_length, put_new}
 use Rattle.flat_map.specs.Assoc.{entries}
 use Rattle.flat_map.proofs.FlatMap.insert.Goals as goal
 
@@ -11,11 +11,11 @@ returns-then-i-len g c =
     let h : c.place-i.result < length (entries m.keys.now m.values.now m.count) = omega (arith, c.len.ensures.value) in
     record {
       cases = (
-        put-held g.K.Key.same c.args.key m.keys.now m.values.now m.count c.place-i.result c.args.value c.place-i.ensures h,
-        lookup-held g.K.Key.same c.args.key m.keys.now m.values.now m.count c.place-i.result _ c.place-i.ensures h,
+        put_held g.K.Key.same c.args.key m.keys.now m.values.now m.count c.place-i.result c.args.value c.place-i.ensures h,
+        lookup_held g.K.Key.same c.args.key m.keys.now m.values.now m.count c.place-i.result _ c.place-i.ensures h,
       );
-      spare = record { keys = refl; values = drop-set-lt _ m.values.now c.place-i.result c.args.value (omega (arith, h, put-length g.K.Key.same c.args.key m.keys.now m.values.now m.count c.place-i.result c.args.value)) };
-      memory = record { keys-name = refl; values-name = refl; keys_len = refl; values_len = length-set _ _ _; cleared = refl };
+      spare = record { keys = refl; values = drop-set-lt _ m.values.now c.place-i.result c.args.value (omega (arith, h, put_length g.K.Key.same c.args.key m.keys.now m.values.now m.count c.place-i.result c.args.value)) };
+      memory = record { keys_name = refl; values_name = refl; keys_len = refl; values_len = length-set _ _ _; cleared = refl };
     }
 
 pub returns-in-err-insert-unchecked : goal.returns-in-err-insert-unchecked
@@ -24,7 +24,7 @@ returns-in-err-insert-unchecked g c =
     let e = c.in-err-insert-unchecked.ensures in
     rw p.1
     record {
-      cases = (lookup-past g.K.Key.same c.args.key _ (omega (arith, c.len.ensures.value, c.place-i.ensures)), e.cases.0, e.cases.1);
+      cases = (lookup_past g.K.Key.same c.args.key _ (omega (arith, c.len.ensures.value, c.place-i.ensures)), e.cases.0, e.cases.1);
       spare = e.spare;
       memory = e.memory;
     }
@@ -34,8 +34,8 @@ returns g c =
     let e = c.in-ok-insert-unchecked.ensures in
     record {
       cases = (
-        e.cases ∙ sym (put-new g.K.Key.same c.args.key _ c.args.value (omega (arith, c.len.ensures.value, c.place-i.ensures))),
-        sym (lookup-past g.K.Key.same c.args.key _ (omega (arith, c.len.ensures.value, c.place-i.ensures))),
+        e.cases ∙ sym (put_new g.K.Key.same c.args.key _ c.args.value (omega (arith, c.len.ensures.value, c.place-i.ensures))),
+        sym (lookup_past g.K.Key.same c.args.key _ (omega (arith, c.len.ensures.value, c.place-i.ensures))),
       );
       spare = e.spare;
       memory = e.memory;

@@ -9,10 +9,10 @@ returns g c =
     c.len-n.ensures.value c.if-n-self.false c.if-n-self-2.false c.append.ensures.after c.append-2.ensures.after in
     record {
       cases = p.is;
-      spare = record { keys = p.spare_keys; values = p.spare_values };
+      spare = record { keys = p.spare_keys_lem; values = p.spare_values_lem };
       memory = record {
-        keys-name = refl;
-        values-name = refl;
+        keys_name = refl;
+        values_name = refl;
         keys_len = search rules;
         values_len = search rules;
         cleared = refl;
