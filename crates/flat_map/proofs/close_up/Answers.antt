@@ -19,5 +19,5 @@ returns g c =
     record {
       value = sym (slice_get_read (take c.args.n xs) c.min-n.result c.args.i c.index-items-i.result (c.min-n.ensures ∙ sym (length-take c.args.n xs)) c.if-i-n.false
           (c.index-items-i.is ∙ sym (get_or-take c.args.n xs c.args.i c.index-items-i.result lt)));
-      after = closed_by_turn xs c.rotate-left.new.self c.args.i c.args.n c.min-n.result c.args.cleared c.min-n.ensures c.if-i-n.false c.rotate-left.ensures.after;
+      after = closed_by_turn xs c.rotate_left.new.self c.args.i c.args.n c.min-n.result c.args.cleared c.min-n.ensures c.if-i-n.false c.rotate_left.ensures.after;
     }

@@ -18,10 +18,10 @@ returns-then-i-len g c =
       memory = record { keys_name = refl; values_name = refl; keys_len = refl; values_len = length-set _ _ _; cleared = refl };
     }
 
-pub returns-in-err-insert-unchecked : goal.returns-in-err-insert-unchecked
-returns-in-err-insert-unchecked g c =
-    let p = err_from_is_err_and c.from-residual.result c.from-residual.ensures.1 in
-    let e = c.in-err-insert-unchecked.ensures in
+pub returns-in_err-insert_unchecked : goal.returns-in_err-insert_unchecked
+returns-in_err-insert_unchecked g c =
+    let p = err_from_is_err_and c.from_residual.result c.from_residual.ensures.1 in
+    let e = c.in_err-insert_unchecked.ensures in
     rw p.1
     record {
       cases = (lookup_past g.K.Key.same c.args.key _ (omega (arith, c.len.ensures.value, c.place-i.ensures)), e.cases.0, e.cases.1);
@@ -31,7 +31,7 @@ returns-in-err-insert-unchecked g c =
 
 pub returns : goal.returns
 returns g c =
-    let e = c.in-ok-insert-unchecked.ensures in
+    let e = c.in_ok-insert_unchecked.ensures in
     record {
       cases = (
         e.cases ∙ sym (put_new g.K.Key.same c.args.key _ c.args.value (omega (arith, c.len.ensures.value, c.place-i.ensures))),

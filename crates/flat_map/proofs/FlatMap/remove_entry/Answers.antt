@@ -21,8 +21,8 @@ pub returns : goal.returns
 returns g c =
     let m = c.args.self.now in
     let h : c.place-i.result < length (entries m.keys.now m.values.now m.count) = omega (arith, c.len-n.ensures.value) in
-    let p = entries_closed m.keys.now c.close-up.new.items m.values.now c.close-up-2.new.items m.count c.len-n.result c.place-i.result _ _
-    c.len-n.ensures.value c.if-i-n.false c.close-up.ensures.after c.close-up-2.ensures.after in
+    let p = entries_closed m.keys.now c.close_up.new.items m.values.now c.close_up-2.new.items m.count c.len-n.result c.place-i.result _ _
+    c.len-n.ensures.value c.if-i-n.false c.close_up.ensures.after c.close_up-2.ensures.after in
     record {
       value = ap (option_map (λ v. (c.args.key, v))) (lookup_held g.K.Key.same c.args.key m.keys.now m.values.now m.count c.place-i.result _ c.place-i.ensures h);
       entries = p.is ∙ ap (λ (j : ℕ). remove (entries m.keys.now m.values.now m.count) j) c.place-i.ensures
