@@ -158,11 +158,13 @@ impl PartialEq for StyledRole {
 }
 
 impl Key for StyledRole {
+    ghost use Rattle.builder.specs.SameRoles.{same_role_decides};
+
     ghost same = { same_role };
 
     ghost told = { Prim.search rules };
 
-    ghost exact = { Prim.search rules };
+    ghost exact = { same_role_decides };
 }
 
 // The styles by role: a map over its own two arrays, in which every role has its entry.

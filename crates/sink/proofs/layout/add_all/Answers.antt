@@ -8,8 +8,8 @@ use Rattle.sink.proofs.layout.add_all.Goals as goal
 piece : (xs : List ℕ) (i m : ℕ) → i + m ≤ length xs → length (take (i + m - i) (drop i xs)) ≡ m
 piece xs i m h = let n : i + m - i ≤ length (drop i xs) = simp length-drop (omega arith) in length-take-le (i + m - i) (drop i xs) n ∙ omega arith
 
-pub add-text-requires : goal.add-text-requires
-add-text-requires c =
+pub add_text-requires : goal.add_text-requires
+add_text-requires c =
     let n = c.args.blocks in
     let held = c.args.held in
     let text = c.args.text.now in
@@ -36,7 +36,7 @@ loop-done-preserved c =
     let e = length_more n held done c.args.dst.now text c.requires.size (omega (arith, c.requires.room)) c.loop-done.invariant.0 in
     let p = piece text done more (omega arith) in (
       omega arith,
-      in_use_more n (held + done) _ (front ++ take done text) _ dst c.add-text.new.dst e (omega (arith, c.requires.room)) c.loop-done.invariant.1 (omega arith) (omega arith) c.add-text.ensures
+      in_use_more n (held + done) _ (front ++ take done text) _ dst c.add_text.new.dst e (omega (arith, c.requires.room)) c.loop-done.invariant.1 (omega arith) (omega arith) c.add_text.ensures
           ∙ ap (λ (l : List ℕ). encode n l) (piece_more front text done more _ (omega arith)),
     )
 

@@ -18,17 +18,17 @@ returns-then-not-blank c u h e =
     w.2 (get_or-between d n 508 w.0 0 g ∙ zero_at d u (n + w.0) e (omega arith) g)
 
 pub returns-then-sum-src : goal.returns-then-sum-src
-returns-then-sum-src c u h e = c.if-sum-src.true (ap (λ (k : ℕ × ℕ). k.0) (c.check-of-sum.ensures ∙ check_at c.args.src.now u h e))
+returns-then-sum-src c u h e = c.if-sum-src.true (ap (λ (k : ℕ × ℕ). k.0) (c.check_of-sum.ensures ∙ check_at c.args.src.now u h e))
 
 pub returns-then-run-src : goal.returns-then-run-src
-returns-then-run-src c u h e = c.if-run-src.true (ap (λ (k : ℕ × ℕ). k.1) (c.check-of-sum.ensures ∙ check_at c.args.src.now u h e))
+returns-then-run-src c u h e = c.if-run-src.true (ap (λ (k : ℕ × ℕ). k.1) (c.check_of-sum.ensures ∙ check_at c.args.src.now u h e))
 
 pub returns : goal.returns
 returns c =
     let d = c.args.src.now in
     let n : ℕ = c.from.result * 256 + c.from-2.result in
     let k : (get_or d 510 0, get_or d 511 0) ≡ check (take 510 d) =
-    sym (ap (λ (i : ℕ). (i, c.check-of-sum.result.1)) c.if-sum-src.false ∙ ap (λ (i : ℕ). (get_or d 510 0, i)) c.if-run-src.false) ∙ c.check-of-sum.ensures in
-    let f : get_or d 509 0 < 256 = omega (arith, c.from-2.ensures, c.from-2.type-inv) in
+    sym (ap (λ (i : ℕ). (i, c.check_of-sum.result.1)) c.if-sum-src.false ∙ ap (λ (i : ℕ). (get_or d 510 0, i)) c.if-run-src.false) ∙ c.check_of-sum.ensures in
+    let f : get_or d 509 0 < 256 = omega (arith, c.from-2.ensures, c.from-2.type_inv) in
     let m = c.if-count-gt508.false in
     (m, block_from d n c.requires m (omega arith) f (zeros_from d n c.requires m c.if-not-blank.ensures) k)

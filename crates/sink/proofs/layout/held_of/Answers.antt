@@ -10,11 +10,11 @@ pub loop-i-init : goal.loop-i-init
 unfolding encode
 loop-i-init c = (omega arith, refl)
 
-pub returns-in-default : goal.returns-in-default
-returns-in-default c t h e =
+pub returns-in_default : goal.returns-in_default
+returns-in_default c t h e =
     let i = c.loop-i.i in
     let u = drop (508 * i) t in
-    c.in-default.ensures (take 508 u) (piece_length u) (block_at c.args.blocks i _ t c.args.src.now c.loop-i-test.true e (omega arith))
+    c.in_default.ensures (take 508 u) (piece_length u) (block_at c.args.blocks i _ t c.args.src.now c.loop-i-test.true e (omega arith))
 
 pub returns-then-held-i : goal.returns-then-held-i
 returns-then-held-i c t h e =

@@ -7,8 +7,8 @@ use Rattle.sink.proofs.layout.read_all.Goals as goal
 pub loop-done-preserved : goal.loop-done-preserved
 loop-done-preserved c = (
   omega arith,
-  read_more c.args.blocks c.args.from c.loop-done.done c.min-more.result _ _ _ c.args.src.now c.loop-done.out c.copy-from-slice.new.self
-      c.requires.size (omega (arith, c.requires.within)) (omega arith) (omega arith) (omega arith) (omega arith) refl c.loop-done.invariant.1 c.copy-from-slice.ensures.after,
+  read_more c.args.blocks c.args.from c.loop-done.done c.min-more.result _ _ _ c.args.src.now c.loop-done.out c.copy_from_slice.new.self
+      c.requires.size (omega (arith, c.requires.within)) (omega arith) (omega arith) (omega arith) (omega arith) refl c.loop-done.invariant.1 c.copy_from_slice.ensures.after,
 )
 
 pub returns : goal.returns

@@ -7,4 +7,4 @@ pub returns : goal.returns
 returns c =
     let dst = c.args.dst.now in
     let count = c.args.count in
-    sealed dst (take count dst) count c.check-of-sum.result c.requires.whole (length-take-le count dst (omega arith)) c.requires.fits c.requires.text c.check-of-sum.ensures
+    sealed dst (take count dst) count c.check_of-sum.result c.requires.whole (length-take-le count dst (omega arith)) c.requires.fits c.requires.text c.check_of-sum.ensures

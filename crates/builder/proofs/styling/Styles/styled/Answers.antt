@@ -14,7 +14,7 @@ colored k s = record { bold = s.bold; underline = s.underline; color = Some k }
 pub returns : goal.returns
 returns c Error =
     c.literal.ensures.others Error refl ∙ c.invalid.ensures.others Error refl ∙ c.valid.ensures.others Error refl ∙ c.error.ensures.here
-    ∙ c.fg-color.ensures ∙ ap (colored Red) (c.bold.ensures ∙ ap bolder c.new.ensures)
-returns c Valid = c.literal.ensures.others Valid refl ∙ c.invalid.ensures.others Valid refl ∙ c.valid.ensures.here ∙ c.fg-color-2.ensures ∙ ap (colored Green) c.new-2.ensures
-returns c Invalid = c.literal.ensures.others Invalid refl ∙ c.invalid.ensures.here ∙ c.fg-color-3.ensures ∙ ap (colored Yellow) c.new-3.ensures
+    ∙ c.fg_color.ensures ∙ ap (colored Red) (c.bold.ensures ∙ ap bolder c.new.ensures)
+returns c Valid = c.literal.ensures.others Valid refl ∙ c.invalid.ensures.others Valid refl ∙ c.valid.ensures.here ∙ c.fg_color-2.ensures ∙ ap (colored Green) c.new-2.ensures
+returns c Invalid = c.literal.ensures.others Invalid refl ∙ c.invalid.ensures.here ∙ c.fg_color-3.ensures ∙ ap (colored Yellow) c.new-3.ensures
 returns c Literal = c.literal.ensures.here ∙ c.bold-2.ensures ∙ ap bolder c.new-4.ensures

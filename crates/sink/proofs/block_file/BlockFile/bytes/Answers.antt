@@ -7,5 +7,5 @@ use Rattle.sink.proofs.block_file.BlockFile.bytes.Goals as goal
 pub returns : goal.returns
 returns c =
     let f = c.args.self.now in
-    let e = c.as-slice.ensures.value in
+    let e = c.as_slice.ensures.value in
     record { value = e; encoded = subst (λ (bs : List ℕ). Holds bs f.blocks (file_held f)) (sym e) (file_holds f) }

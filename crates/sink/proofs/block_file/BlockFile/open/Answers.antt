@@ -14,13 +14,13 @@ pub returns-in-None : goal.returns-in-None
 returns-in-None c =
     let n : ℕ = c.len-size.result / 512 in
     record {
-      cases = (refl, (n, record { some = omega arith; few = omega arith; size = omega (arith, c.args.bytes.ok.0) }, (λ t h. c.in-None.ensures t h.fits (c.as-slice.ensures.value ∙ h.is))));
+      cases = (refl, (n, record { some = omega arith; few = omega arith; size = omega (arith, c.args.bytes.ok.0) }, (λ t h. c.in-None.ensures t h.fits (c.as_slice.ensures.value ∙ h.is))));
       only = one_text c.args.bytes.items;
     }
 
 pub returns-in-Some : goal.returns-in-Some
 returns-in-Some c =
-    let e = c.as-slice.ensures.value in
+    let e = c.as_slice.ensures.value in
     let n : ℕ = c.len-size.result / 512 in
     let l : length c.args.bytes.items ≡ 512 * n = omega (arith, c.args.bytes.ok.0) in
     let h = c.in-Some.ensures in

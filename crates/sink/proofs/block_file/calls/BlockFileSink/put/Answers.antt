@@ -9,7 +9,7 @@ use Rattle.sink.proofs.block_file.calls.BlockFileSink.put.Goals as goal
 pub add-requires : goal.add-requires
 add-requires c =
     let n : ℕ = length c.args.bytes.now in
-    omega (arith, c.in-ok-within.ensures n (cond_below n (2 ^ 64) (Some n) None (omega arith)), c.args.self.now.room)
+    omega (arith, c.in_ok-within.ensures n (cond_below n (2 ^ 64) (Some n) None (omega arith)), c.args.self.now.room)
 
 pub returns : goal.returns
 returns c =
@@ -20,7 +20,7 @@ returns c =
     let n : ℕ = length bs in
     let old : List ℕ = f.bytes.items in
     let new : List ℕ = g.bytes.items in
-    let l = c.in-ok-within.ensures n (cond_below n (2 ^ 64) (Some n) None (omega arith)) in
+    let l = c.in_ok-within.ensures n (cond_below n (2 ^ 64) (Some n) None (omega arith)) in
     let h : length old ≡ 512 * f.blocks = omega (arith, f.bytes.ok.0, f.size) in
     let m : g.held ≤ 508 * f.blocks = omega (arith, f.room, a.count) in
     record {

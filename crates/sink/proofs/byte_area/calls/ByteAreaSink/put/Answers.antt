@@ -6,7 +6,7 @@ use Rattle.sink.proofs.byte_area.calls.ByteAreaSink.put.Goals as goal
 pub add-requires : goal.add-requires
 add-requires c =
     let n : ℕ = length c.args.bytes.now in
-    omega (arith, c.in-ok-within.ensures n (cond_below n (2 ^ 64) (Some n) None (omega arith)), c.args.self.now.within)
+    omega (arith, c.in_ok-within.ensures n (cond_below n (2 ^ 64) (Some n) None (omega arith)), c.args.self.now.within)
 
 pub returns : goal.returns
 returns c =
@@ -17,7 +17,7 @@ returns c =
     let n : ℕ = length bs in
     let old : List ℕ = f.bytes.items in
     let new : List ℕ = g.bytes.items in
-    let l = c.in-ok-within.ensures n (cond_below n (2 ^ 64) (Some n) None (omega arith)) in
+    let l = c.in_ok-within.ensures n (cond_below n (2 ^ 64) (Some n) None (omega arith)) in
     let u : f.fill.held ≤ length old = omega (arith, f.within, f.bytes.ok.0) in
     record {
       adds = record {
