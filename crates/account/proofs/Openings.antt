@@ -3,7 +3,7 @@ use Rattle.std.proofs.Common.{◌≡◌, Bool, true, false, cond, List, [], ◌�
 use mathlib.Core.Option.{Option, none, some}
 use Prim.Native.String.{String}
 use Rattle.std.specs.Fmt.{signed_decimal}
-use Rattle.std.specs.List.{flat_map, AllByRecursion as All}
+use Rattle.std.specs.List.{flat_map, AllByRecursion}
 use Rattle.std.proofs.lemmas.List.{append_assoc}
 use Rattle.sheet.specs.Loops.{many, many_reads}
 use Rattle.sheet.specs.Parts.{Text, Label, valid, invalid, literal, Part, labelled, byte, erased}
@@ -153,7 +153,7 @@ wording_reads missing_required_argument h = refl
 wording_reads missing_subcommand h = refl
 wording_reads invalid_utf8 h = refl
 
-statement_reads : (x : Statement) {s : Stream} → AtTips s → All Signed64 (numbers_of x) → read_statement (erased (stated x) ++ s) ≡ some (x, s)
+statement_reads : (x : Statement) {s : Stream} → AtTips s → AllByRecursion Signed64 (numbers_of x) → read_statement (erased (stated x) ++ s) ≡ some (x, s)
 statement_reads (repeat a) h f = refl
 statement_reads (clash (the_argument a) p) h f = ap (λ (r : Prior × Stream). some (clash (the_argument a) r.0, r.1)) (prior_reads p h)
 statement_reads (clash (the_subcommand a) p) h f = ap (λ (r : Prior × Stream). some (clash (the_subcommand a) r.0, r.1)) (prior_reads p h)
@@ -188,7 +188,7 @@ read_opening = hole (λ t. first_of (lit (codes " ") (λ s. said (read_statement
 abbrev pub Anything : Stream → Type 0
 Anything s = Unit {0}
 
-pub opening_reads : (o : Opening) (s : Stream) → AtTips s → All Signed64 (numbers_in o) → read_opening (erased (opened o) ++ s) ≡ some (o, s)
+pub opening_reads : (o : Opening) (s : Stream) → AtTips s → AllByRecursion Signed64 (numbers_in o) → read_opening (erased (opened o) ++ s) ≡ some (o, s)
 opening_reads (says x) s h f =
     ap (λ (z : Option (Statement × Stream)). or (said z) (or (some (ready_text (codes "error:"), erased (words " " ∷ stated x) ++ s)) none)) (statement_reads x h f)
 opening_reads (ready_text t) s no_line f = refl
@@ -199,7 +199,7 @@ abbrev pub opening_segment : Segment Opening Anything AtTips
 opening_segment = record {
   write = λ o. erased (opened o);
   read = read_opening;
-  Fits = λ o s. All Signed64 (numbers_in o);
+  Fits = λ o s. AllByRecursion Signed64 (numbers_in o);
   begins = λ o s h. tt;
   reads = opening_reads;
 }

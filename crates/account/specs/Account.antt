@@ -1,7 +1,7 @@
 -- What a message says: its account. What prints alike is one account, so the kind of error is not in it, nor which entries led to it.
 use Rattle.std.specs.Prelude.{◌≡◌, ◌^◌, ◌<◌, Bool, true, List, [], ◌∷◌, ℤ, Some, None, Option, ◌≢◌}
 use Rattle.std.specs.Int.Signed.{mag}
-use Rattle.std.specs.List.{AllByRecursion as All}
+use Rattle.std.specs.List.{AllByRecursion}
 use Rattle.sheet.specs.Parts.{Text}
 use Rattle.account.specs.declared.kind.ErrorKind.{ErrorKind}
 use Rattle.account.specs.declared.kind.ErrorKind.TheVariants as kind
@@ -116,7 +116,7 @@ Signed64 z = mag z < 2 ^ 63
 
 -- an account that an error can have: its numbers have 64 bits, and no gap stands with a bare ending
 pub record Proper (a : Account) : Type 0 where
-  pub numbers : All Signed64 (numbers_in a.opening)
+  pub numbers : AllByRecursion Signed64 (numbers_in a.opening)
   pub ends : a.gap ≡ true → a.ending ≢ bare
 
 -- the kind with that wording

@@ -1,7 +1,7 @@
 -- What holds of kinds and keys, and the one reading of a message.
 use Rattle.std.specs.Prelude.{◌≡◌, ℕ, true, false, List, [], ◌∷◌, None, Decides, ◌≢◌}
 use Rattle.std.specs.Option.{option_map}
-use Rattle.std.specs.List.{AllByRecursion as All}
+use Rattle.std.specs.List.{AllByRecursion}
 use Rattle.builder.specs.Roles.{style_of, standard}
 use Rattle.builder.specs.declared.styling.StyledRole.{StyledRole}
 use Rattle.builder.specs.declared.styling.Styles.{Styles}
@@ -58,7 +58,7 @@ LegibleTells = (show : Part → List ℕ) → Legible show → MessagesTell show
 
 -- on a terminal whose styles are not plain, messages tell if they have no loose text and no byte 1B
 abbrev pub MessagesTellOnTerminal : Styles → Type 0
-MessagesTellOnTerminal s = (a b : Account) → Proper a → Proper b → All Readable (parts a) → All Readable (parts b) → Tells (terminal s) a b
+MessagesTellOnTerminal s = (a b : Account) → Proper a → Proper b → AllByRecursion Readable (parts a) → AllByRecursion Readable (parts b) → Tells (terminal s) a b
 
 abbrev pub TerminalMessages : Type 0
 TerminalMessages = (s : Styles) → NonePlain s → MessagesTellOnTerminal s

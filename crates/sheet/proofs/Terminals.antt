@@ -1,7 +1,7 @@
 -- What can be told from a terminal, where no style is plain.
 use Rattle.std.proofs.Common.{◌≡◌, ℕ, ◌+◌, ◌-◌, ◌≤◌, Bool, true, false, cond, eqb, List, [], ◌∷◌, ◌++◌, map, length, Some, None, Option as Maybe, sym, refl, ap, ◌∙◌, ap₂, arith}
 use mathlib.Core.Option.{Option, none, some, some-injective}
-use Rattle.std.specs.List.{flat_map, AllByRecursion as All}
+use Rattle.std.specs.List.{flat_map, AllByRecursion}
 use Rattle.std.proofs.lemmas.List.{append_assoc}
 use Rattle.std.proofs.lemmas.Bool.{ne_eqb, cond-false}
 use Rattle.builder.specs.Marks.{number_of, mark, marks, is_plain, reset, styled_text}
@@ -178,11 +178,11 @@ abbrev Shown : Symbol Label → Type 0
 Shown (byte b) = b ≡ 27 → ⊥
 Shown (whole l t) = Firm l × Clear t
 
-bytes_shown : (t : Text) (xs : List (Symbol Label)) → Clear t → All Shown xs → All Shown (map byte t ++ xs)
+bytes_shown : (t : Text) (xs : List (Symbol Label)) → Clear t → AllByRecursion Shown xs → AllByRecursion Shown (map byte t ++ xs)
 bytes_shown [] xs h k = k
 bytes_shown (b ∷ t) xs h k = (h.0, bytes_shown t xs h.1 k)
 
-all_shown : (ps : List Part) → All Readable ps → All Shown (symbols ps)
+all_shown : (ps : List Part) → AllByRecursion Readable ps → AllByRecursion Shown (symbols ps)
 all_shown [] h = tt
 all_shown (fixed t ∷ ps) h = bytes_shown t (symbols ps) h.0 (all_shown ps h.1)
 all_shown (labelled l t ∷ ps) h = (h.0, all_shown ps h.1)

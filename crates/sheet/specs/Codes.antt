@@ -2,7 +2,7 @@
 use Rattle.std.specs.Prelude.{◌≡◌, ℕ, List, [], ◌∷◌, ◌++◌, map, refl}
 use Rattle.std.proofs.Math.Option.{Option, none, some, none-ne-some, some-injective}
 use Rattle.std.proofs.Common.{sym, ◌∙◌, ap, ap₂}
-use Rattle.std.specs.List.{flat_map, AllByRecursion as All}
+use Rattle.std.specs.List.{flat_map, AllByRecursion}
 use Rattle.std.proofs.lemmas.List.{append_cancel_left}
 use Rattle.sheet.specs.Parts.{Text, Label, Part, fixed, tidy, Tidy, OfTexts, Symbol, symbols}
 use Rattle.sheet.specs.Sheets.{showing, Legible}
@@ -19,7 +19,7 @@ pub record Reads {X A : Type 0} (P : X → Type 0) (code : X → List A) : Type 
 
 module _ {X A : Type 0} (P : X → Type 0) (code : X → List A) (r : Reads P code) where
   -- equal codes have equal views
-  pub views : (xs ys : List X) → All P xs → All P ys → flat_map code xs ≡ flat_map code ys → map r.view xs ≡ map r.view ys
+  pub views : (xs ys : List X) → AllByRecursion P xs → AllByRecursion P ys → flat_map code xs ≡ flat_map code ys → map r.view xs ≡ map r.view ys
   views [] [] g h e = refl
   views [] (y ∷ ys) g h e = absurd (none-ne-some (r.view y) (sym r.at_end ∙ ap r.first e ∙ r.finds y (flat_map code ys) h.0))
   views (x ∷ xs) [] g h e = absurd (none-ne-some (r.view x) (sym r.at_end ∙ ap r.first (sym e) ∙ r.finds x (flat_map code xs) g.0))
@@ -30,7 +30,7 @@ module _ {X A : Type 0} (P : X → Type 0) (code : X → List A) (r : Reads P co
 
 -- a list is known by its elements' views
 pub from_views : {X V : Type 0} (P : X → Type 0) (view : X → V) → ((x y : X) → P x → P y → view x ≡ view y → x ≡ y) →
-    (xs ys : List X) → All P xs → All P ys → map view xs ≡ map view ys → xs ≡ ys
+    (xs ys : List X) → AllByRecursion P xs → AllByRecursion P ys → map view xs ≡ map view ys → xs ≡ ys
 from_views P view k [] [] g h e = refl
 from_views P view k [] (y ∷ ys) g h e = cc
 from_views P view k (x ∷ xs) [] g h e = cc
@@ -43,7 +43,7 @@ from_views P view k (x ∷ xs) (y ∷ ys) g h e =
 abbrev pub Any : {X : Type 0} → X → Type 0
 Any x = Unit {0}
 
-pub every : {X : Type 0} (xs : List X) → All Any xs
+pub every : {X : Type 0} (xs : List X) → AllByRecursion Any xs
 every [] = tt
 every (x ∷ xs) = (tt, every xs)
 

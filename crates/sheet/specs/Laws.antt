@@ -1,6 +1,6 @@
 -- What holds of parts and of the three sheets.
 use Rattle.std.specs.Prelude.{◌≡◌, ℕ, List, ◌++◌}
-use Rattle.std.specs.List.{AllByRecursion as All}
+use Rattle.std.specs.List.{AllByRecursion}
 use Rattle.builder.specs.Roles.{style_of, standard}
 use Rattle.builder.specs.declared.styling.Style.{Style}
 use Rattle.builder.specs.declared.styling.StyledRole.{StyledRole}
@@ -45,11 +45,11 @@ TerminalIllegible = (s : Styles) → Legible (terminal s) → ⊥
 -- where no style is plain, a terminal tells what was said, up to roles of one style
 abbrev pub TerminalTells : Type 0
 TerminalTells =
-    (s : Styles) → NonePlain s → (p q : List Part) → All Readable p → All Readable q →
+    (s : Styles) → NonePlain s → (p q : List Part) → AllByRecursion Readable p → AllByRecursion Readable q →
     showing (terminal s) p ≡ showing (terminal s) q → symbols_by (style_for s) p ≡ symbols_by (style_for s) q
 
 -- in the standard colours it tells the roles too
 abbrev pub StandardTells : Type 0
 StandardTells =
-    (s : Styles) → ((q : StyledRole) → style_of s q ≡ standard q) → (p q : List Part) → All Readable p → All Readable q →
+    (s : Styles) → ((q : StyledRole) → style_of s q ≡ standard q) → (p q : List Part) → AllByRecursion Readable p → AllByRecursion Readable q →
     showing (terminal s) p ≡ showing (terminal s) q → tidy p ≡ tidy q

@@ -1,6 +1,6 @@
 -- The page sheet: labelled parts are elements, and what would be read as markup is written as a reference.
 use Rattle.std.specs.Prelude.{◌≡◌, ℕ, ◌/◌, ◌%◌, ◌≤◌, Bool, cond, not, ◌&&◌, ◌||◌, List, [], ◌∷◌, ◌++◌, codes, ◌==◌, ◌≢◌, nat_lt}
-use Rattle.std.specs.List.{AllByRecursion as All}
+use Rattle.std.specs.List.{AllByRecursion}
 use Rattle.util.specs.Shown.{hex_digit}
 use Rattle.sheet.specs.Frames.{framing}
 use Rattle.sheet.specs.Parts.{Text, Label, error, valid, invalid, literal, given, ready, Part}
@@ -30,7 +30,7 @@ page_by name p = framing (λ l. start_tag (name l)) page_byte (λ l. end_tag (na
 
 -- names that a page may have: words of a to z, not empty, that differ, and none is s
 pub record Elements (name : Label → Text) : Type 0 where
-  pub letters : (l : Label) → All (λ c. (97 ≤ c) × (c ≤ 122)) (name l)
+  pub letters : (l : Label) → AllByRecursion (λ c. (97 ≤ c) × (c ≤ 122)) (name l)
   pub not_empty : (l : Label) → name l ≢ []
   pub none_is_s : (l : Label) → name l ≢ codes "s"
   pub differ : (l m : Label) → name l ≡ name m → l ≡ m

@@ -2,7 +2,7 @@
 use Rattle.std.specs.Prelude.{◌≡◌, ℕ, ◌+◌, ◌-◌, ◌*◌, ◌/◌, ◌%◌, ◌<◌, ◌≤◌, Bool, true, false, cond, not, ◌&&◌, List, [], ◌∷◌, ◌++◌, length, drop, codes, ◌==◌, ◌≢◌, nat_eq, nat_lt, slice_index, refl}
 use Rattle.std.proofs.Common.{⊎_elim, sym, ◌∙◌, ap, ap₂, arith}
 use Rattle.std.proofs.Math.Option.{Option, none, some, some-injective}
-use Rattle.std.specs.List.{flat_map, AllByRecursion as All}
+use Rattle.std.specs.List.{flat_map, AllByRecursion}
 use Rattle.std.proofs.lemmas.List.{append_assoc, append-nil}
 use Rattle.std.proofs.lemmas.Bool.{eqb-true, ltb-true, ltb-false, lt-ltb, le-ltb, ne_eqb, or_cases, and_parts, cond-true, cond-false}
 use Rattle.util.specs.Shown.{hex_digit}
@@ -105,7 +105,7 @@ abbrev upto : Text → Text × Text
 upto [] = ([], [])
 upto (c ∷ s) = cond (c == 62) ([], s) (c ∷ (upto s).0, (upto s).1)
 
-upto_finds : (n s : Text) → All Letter n → upto (n ++ (62 ∷ s)) ≡ (n, s)
+upto_finds : (n s : Text) → AllByRecursion Letter n → upto (n ++ (62 ∷ s)) ≡ (n, s)
 upto_finds [] s h = refl
 upto_finds (c ∷ n) s h =
     let l : 97 ≤ c = h.0.0 in
@@ -115,7 +115,7 @@ cond_same : {X : Type 0} (v : Bool) (x : X) → cond v x x ≡ x
 cond_same true x = refl
 cond_same false x = refl
 
-no_byte : (n s : Text) → All Letter n → (n ≢ codes "s") → next_byte (60 ∷ (n ++ (62 ∷ s))) ≡ none
+no_byte : (n s : Text) → AllByRecursion Letter n → (n ≢ codes "s") → next_byte (60 ∷ (n ++ (62 ∷ s))) ≡ none
 no_byte [] s h k = refl
 no_byte (c ∷ []) s h k = cond-false (c == 115) (digits s) none (ne_eqb c 115 (λ e. k (ap (λ z. z ∷ []) e)))
 no_byte (c ∷ d ∷ n) s h k =
@@ -184,7 +184,7 @@ label_finds literal = refl
 label_finds given = refl
 label_finds ready = refl
 
-letters : (l : Label) → All Letter (element l)
+letters : (l : Label) → AllByRecursion Letter (element l)
 letters error = omega arith
 letters valid = omega arith
 letters invalid = omega arith

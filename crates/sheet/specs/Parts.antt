@@ -1,6 +1,6 @@
 -- What a message is made of: parts, and when two lists of parts are one message.
 use Rattle.std.specs.Prelude.{◌≡◌, ℕ, List, [], ◌∷◌, ◌++◌, map}
-use Rattle.std.specs.List.{flat_map, AllByRecursion as All}
+use Rattle.std.specs.List.{flat_map, AllByRecursion}
 use Rattle.util.specs.Text.{IsText}
 
 abbrev pub Text : Type 0
@@ -21,7 +21,7 @@ text_of (labelled l t) = t
 
 -- every part has a text, 7-bit bytes
 abbrev pub OfTexts : List Part → Type 0
-OfTexts ps = All (λ p. IsText (text_of p)) ps
+OfTexts ps = AllByRecursion (λ p. IsText (text_of p)) ps
 
 -- fixed wording before a tidy list: it joins the fixed part that it meets, and where it is empty it is no part
 abbrev pub ahead : Text → List Part → List Part

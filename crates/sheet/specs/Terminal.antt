@@ -1,6 +1,6 @@
 -- The terminal sheet: the four styled roles stand in their styles, everything else as it is.
 use Rattle.std.specs.Prelude.{◌≡◌, ℕ, false, List, ◌≢◌}
-use Rattle.std.specs.List.{AllByRecursion as All}
+use Rattle.std.specs.List.{AllByRecursion}
 use Rattle.builder.specs.Marks.{is_plain, styled_text}
 use Rattle.builder.specs.Roles.{style_of}
 use Rattle.builder.specs.Styling.{plain_style}
@@ -29,7 +29,7 @@ terminal s p = styled_text (style_in s p) (text_of p)
 
 -- no byte of a text is 1B
 abbrev pub Clear : Text → Type 0
-Clear t = All (λ b. b ≢ 27) t
+Clear t = AllByRecursion (λ b. b ≢ 27) t
 
 -- loose text: given and ready
 abbrev pub Firm : Label → Type 0

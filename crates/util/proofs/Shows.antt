@@ -1,6 +1,6 @@
 -- Of shown forms.
 use Rattle.std.proofs.Common.{◌≡◌, ℕ, ◌+◌, ◌*◌, ◌/◌, ◌%◌, ◌<◌, ◌≤◌, true, false, ◌||◌, eqb, ltb, List, [], ◌∷◌, ◌++◌, length, sym, refl, ◌∙◌, inl, inr, arith, length-append}
-use Rattle.std.specs.List.{flat_map, AllByRecursion as All}
+use Rattle.std.specs.List.{flat_map, AllByRecursion}
 use Rattle.std.proofs.ByRecursion.{All-append, All-weaker}
 use Rattle.std.proofs.lemmas.Bool.{cond_both, cond-true, cond-false, eqb-true, eqb-false, ltb-true, ltb-false, or_cases, or_parts, false≢true}
 use Rattle.std.proofs.lemmas.Bool.Decides.{nat_tests}
@@ -45,15 +45,15 @@ module _ (P : ℕ → Type 0) (ascii : (n : ℕ) → 32 ≤ n → n < 127 → P 
   digit : (n : ℕ) → n < 16 → P (hex_digit n)
   digit n h = cond_both (ltb n 10) (48 + n) (87 + n) P (λ e. ascii (48 + n) (omega arith) (omega (arith, ltb-true n 10 e))) (λ _. ascii (87 + n) (omega arith) (omega arith))
 
-  number : (n : ℕ) → n < 128 → All P (hex n)
-  number n h = cond_both (ltb n 16) _ _ (All P) (λ e. (digit n (ltb-true n 16 e), tt)) (λ _. (digit (n / 16) (omega arith), (digit (n % 16) (omega arith), tt)))
+  number : (n : ℕ) → n < 128 → AllByRecursion P (hex n)
+  number n h = cond_both (ltb n 16) _ _ (AllByRecursion P) (λ e. (digit n (ltb-true n 16 e), tt)) (λ _. (digit (n / 16) (omega arith), (digit (n % 16) (omega arith), tt)))
 
-  one : (n : ℕ) → 32 ≤ n → n < 127 → All P (92 ∷ n ∷ [])
+  one : (n : ℕ) → 32 ≤ n → n < 127 → AllByRecursion P (92 ∷ n ∷ [])
   one n h k = (ascii 92 (omega arith) (omega arith), (ascii n h k, tt))
 
-  quoted_byte : (b : ℕ) → (32 ≤ b → (b ≡ 127 → ⊥) → P b) → All P (quote_byte b)
+  quoted_byte : (b : ℕ) → (32 ≤ b → (b ≡ 127 → ⊥) → P b) → AllByRecursion P (quote_byte b)
   quoted_byte b self =
-      quote_cases b (All P)
+      quote_cases b (AllByRecursion P)
       (λ _. one 34 (omega arith) (omega arith)) (λ _. one 92 (omega arith) (omega arith)) (λ _. one 116 (omega arith) (omega arith))
       (λ _. one 110 (omega arith) (omega arith)) (λ _. one 114 (omega arith) (omega arith)) (λ _. one 48 (omega arith) (omega arith))
       (λ h. All-append P (92 ∷ 117 ∷ 123 ∷ []) (hex b ++ 125 ∷ [])
@@ -61,14 +61,14 @@ module _ (P : ℕ → Type 0) (ascii : (n : ℕ) → 32 ≤ n → n < 127 → P 
       (All-append P (hex b) (125 ∷ []) (number b h) (ascii 125 (omega arith) (omega arith), tt)))
       (λ _ _ h k. (self h k, tt))
 
-  quoted_all : (v : List ℕ) → All (λ b. 32 ≤ b → (b ≡ 127 → ⊥) → P b) v → All P (quoted v)
+  quoted_all : (v : List ℕ) → AllByRecursion (λ b. 32 ≤ b → (b ≡ 127 → ⊥) → P b) v → AllByRecursion P (quoted v)
   quoted_all v self = (ascii 34 (omega arith) (omega arith), All-append P (flat_map quote_byte v) (34 ∷ []) (by v self) (ascii 34 (omega arith) (omega arith), tt))
     where
-      by : (v : List ℕ) → All (λ b. 32 ≤ b → (b ≡ 127 → ⊥) → P b) v → All P (flat_map quote_byte v)
+      by : (v : List ℕ) → AllByRecursion (λ b. 32 ≤ b → (b ≡ 127 → ⊥) → P b) v → AllByRecursion P (flat_map quote_byte v)
       by [] h = tt
       by (b ∷ v) h = All-append P (quote_byte b) (flat_map quote_byte v) (quoted_byte b h.0) (by v h.1)
 
-each : (P : ℕ → Type 0) → ((b : ℕ) → P b) → (v : List ℕ) → All P v
+each : (P : ℕ → Type 0) → ((b : ℕ) → P b) → (v : List ℕ) → AllByRecursion P v
 each P p [] = tt
 each P p (b ∷ v) = (p b, each P p v)
 
@@ -77,17 +77,17 @@ quoted_prints v = quoted_all Printing (λ n h k. (h, λ e. omega arith)) v (each
 
 pub shown_in_line : ShownInLine
 shown_in_line v =
-    shown_cases v (All InLine)
+    shown_cases v (AllByRecursion InLine)
     (quoted_all InLine (λ n h k p q. omega arith) v (each (λ b. 32 ≤ b → (b ≡ 127 → ⊥) → InLine b) (λ b h k p q. omega arith) v))
     (λ e. unquoted v e)
   where
-    by : (v : List ℕ) → has_blank v ≡ false → All InLine v
+    by : (v : List ℕ) → has_blank v ≡ false → AllByRecursion InLine v
     by [] e = tt
     by (b ∷ v) e =
         let p = or_parts (blank b) (has_blank v) e in
         (λ h k. let z : blank b ≡ true = grind (arith, nat_tests) in false≢true (sym p.0 ∙ z), by v p.1)
 
-    unquoted : (v : List ℕ) → needs_quotes v ≡ false → All InLine v
+    unquoted : (v : List ℕ) → needs_quotes v ≡ false → AllByRecursion InLine v
     unquoted [] e = tt
     unquoted (b ∷ v) e = by (b ∷ v) e
 

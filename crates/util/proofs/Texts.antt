@@ -1,6 +1,6 @@
 -- Of text: the steps of a search for a byte that is none, and laws for those who only know the name.
 use Rattle.std.proofs.Common.{◌≡◌, ℕ, ◌+◌, ◌<◌, ◌≤◌, Bool, true, false, ◌&&◌, leb, List, [], ◌∷◌, ◌++◌, length, get_or, drop, sym, refl, ap, ◌∙◌}
-use Rattle.std.specs.List.{AllByRecursion as All}
+use Rattle.std.specs.List.{AllByRecursion}
 use Rattle.std.proofs.lemmas.List.{at_drop_more, at_drop_all}
 use Rattle.std.proofs.lemmas.Bool.{le-leb, lt-leb, leb-true, and_from, and_parts}
 use Rattle.util.specs.Text.{is_text, IsText}
@@ -16,12 +16,12 @@ text_append (x ∷ a) b p q =
     let h = and_parts (leb x 127) (is_text a) p in
     ap (λ (v : Bool). v && is_text (a ++ b)) h.0 ∙ text_append a b h.1 q
 
-pub text_from_all : (bs : List ℕ) → All (λ b. b ≤ 127) bs → IsText bs
+pub text_from_all : (bs : List ℕ) → AllByRecursion (λ b. b ≤ 127) bs → IsText bs
 unfolding is_text
 text_from_all [] h = refl
 text_from_all (b ∷ bs) h = and_from (leb b 127) (is_text bs) (le-leb b 127 h.0) (text_from_all bs h.1)
 
-pub all_from_text : (bs : List ℕ) → IsText bs → All (λ b. b ≤ 127) bs
+pub all_from_text : (bs : List ℕ) → IsText bs → AllByRecursion (λ b. b ≤ 127) bs
 unfolding is_text
 all_from_text [] h = tt
 all_from_text (b ∷ bs) h = let p = and_parts (leb b 127) (is_text bs) h in (leb-true b 127 p.0, all_from_text bs p.1)

@@ -1,6 +1,6 @@
 -- Laws that a reader of packed lists and shown forms may rest on.
 use Rattle.std.specs.Prelude.{◌≡◌, ℕ, ◌+◌, ◌*◌, ◌<◌, ◌≤◌, List, [], ◌∷◌, ◌++◌, length, Some, ◌≢◌, slice_index}
-use Rattle.std.specs.List.{AllByRecursion as All}
+use Rattle.std.specs.List.{AllByRecursion}
 use Rattle.util.specs.Literal.{literal}
 use Rattle.util.specs.Packed.{pack, unpack}
 use Rattle.util.specs.Shown.{quoted, shown}
@@ -28,7 +28,7 @@ Printing b = (32 ≤ b) × (b ≢ 127)
 
 -- a quoted form has only such bytes
 abbrev pub QuotedPrints : Type 0
-QuotedPrints = (v : List ℕ) → All Printing (quoted v)
+QuotedPrints = (v : List ℕ) → AllByRecursion Printing (quoted v)
 
 -- a byte that neither breaks a line nor moves along it: none of 09 to 0D
 abbrev pub InLine : ℕ → Type 0
@@ -36,7 +36,7 @@ InLine b = 9 ≤ b → b ≤ 13 → ⊥
 
 -- a shown form has only such bytes
 abbrev pub ShownInLine : Type 0
-ShownInLine = (v : List ℕ) → All InLine (shown v)
+ShownInLine = (v : List ℕ) → AllByRecursion InLine (shown v)
 
 -- the shown form of a text is a text
 abbrev pub ShownText : Type 0
