@@ -4,15 +4,15 @@ use Rattle.parts.specs.Told.{parts_of}
 use Rattle.parts.proofs.Leads.{next, exit, end, at_part}
 use Rattle.parts.proofs.say.Goals as goal
 
-pub returns-in-err-part : goal.returns-in-err-part
-returns-in-err-part g c =
-    exit g.T.Taker.laws _ (_ ∷ []) _ _ c.from-residual.result
-    (at_part g.T.Taker.laws c.args.parts.now c.loop-p.p-index _ c.loop-p-test.true c.loop-p.invariant) c.in-err-part.ensures c.from-residual.ensures.1
+pub returns-in_err-part : goal.returns-in_err-part
+returns-in_err-part g c =
+    exit g.T.Taker.laws _ (_ ∷ []) _ _ c.from_residual.result
+    (at_part g.T.Taker.laws c.args.parts.now c.loop-p.p-index _ c.loop-p-test.true c.loop-p.invariant) c.in_err-part.ensures c.from_residual.ensures.1
 
 pub loop-p-preserved : goal.loop-p-preserved
 loop-p-preserved g c =
     next g.T.Taker.laws (_ ∷ []) _
-    (at_part g.T.Taker.laws c.args.parts.now c.loop-p.p-index _ c.loop-p-test.true c.loop-p.invariant) c.in-ok-part.ensures
+    (at_part g.T.Taker.laws c.args.parts.now c.loop-p.p-index _ c.loop-p-test.true c.loop-p.invariant) c.in_ok-part.ensures
 
 pub returns : goal.returns
 returns g c = end g.T.Taker.laws (rw (at_drop_all parts_of c.args.parts.now c.loop-p.p-index c.loop-p-test.false) at c.loop-p.invariant)
