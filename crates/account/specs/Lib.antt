@@ -2,5 +2,6 @@ pub mod Account
 pub mod Keys
 pub mod Kinds
 pub mod Laws
+pub mod SameKeys
 pub mod Values
 pub mod Wording

@@ -81,11 +81,13 @@ impl Eq for ContextKind {
 }
 
 impl Key for ContextKind {
+    ghost use Rattle.account.specs.SameKeys.{same_key_decides};
+
     ghost same = { same_key };
 
     ghost told = { Prim.search rules };
 
-    ghost exact = { Prim.search rules };
+    ghost exact = { same_key_decides };
 }
 
 // What an entry holds: a text or a packed list of texts lies where it is borrowed from.
