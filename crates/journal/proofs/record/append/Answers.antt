@@ -6,8 +6,8 @@ use Rattle.std.proofs.lemmas.Bool.{eqb-true}
 use Rattle.sink.proofs.Files.{held_is}
 use Rattle.journal.proofs.record.append.Goals as goal
 
-pub overflow-add-to : goal.overflow-add-to
-overflow-add-to c =
+pub overflow_add-to : goal.overflow_add-to
+overflow_add-to c =
     let f = c.put.new.self in
     let l = length-take f.held (texts f.blocks (vec_items f.bytes)) in
     let r = f.room in
@@ -15,28 +15,28 @@ overflow-add-to c =
     let e = c.len.ensures in
     search rules
 
-pub returns-then-is-empty : goal.returns-then-is-empty
-returns-then-is-empty c =
-    let e = nil_from_length c.args.line.now (eqb-true _ 0 (sym c.if-is-empty.ensures)) in
+pub returns-then-is_empty : goal.returns-then-is_empty
+returns-then-is_empty c =
+    let e = nil_from_length c.args.line.now (eqb-true _ 0 (sym c.if-is_empty.ensures)) in
     record {
       adds = record { fits = omega (arith, ap length e); holds = sym (ap (λ (l : List ℕ). file_held c.args.file.now ++ l) e ∙ append-nil _); rest = omega (arith, ap length e) };
       touched = record {
         from = ap full c.len-from.ensures;
-        to = rw (sym c.if-is-empty.ensures) (ap full c.len-from.ensures);
+        to = rw (sym c.if-is_empty.ensures) (ap full c.len-from.ensures);
       };
       kept = record { before = refl; after = refl };
     }
 
 pub returns : goal.returns
 returns c =
-    let t = c.in-ok-put.ensures.adds in
+    let t = c.in_ok-put.ensures.adds in
     let old = c.args.file.now in
     let new = c.put.new.self in
     record {
       adds = t;
       touched = record {
         from = ap full c.len-from.ensures;
-        to = rw (sym c.if-is-empty.ensures) (ap used (c.len.ensures ∙ ap length t.holds ∙ length-append _ _));
+        to = rw (sym c.if-is_empty.ensures) (ap used (c.len.ensures ∙ ap length t.holds ∙ length-append _ _));
       };
       kept =
           subst (λ (n : ℕ). Kept n (used c.len.result) (vec_items old.bytes) (vec_items new.bytes)) (ap full (held_is old ∙ sym c.len-from.ensures))

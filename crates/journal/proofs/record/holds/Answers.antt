@@ -5,6 +5,6 @@ use Rattle.std.proofs.lemmas.Bool.Decides.{Decides-eqb}
 
 pub returns : goal.returns
 returns c =
-    let d = slice_eq-Decides Decides-eqb c.as-slice.result.now c.args.text.now c.eq.result c.eq.ensures in
-    let e = c.as-slice.ensures.value ∙ c.in-ok-held.ensures in
+    let d = slice_eq-Decides Decides-eqb c.as_slice.result.now c.args.text.now c.eq.result c.eq.ensures in
+    let e = c.as_slice.ensures.value ∙ c.in_ok-held.ensures in
     (λ t. sym e ∙ d.0 t, λ q. d.1 (e ∙ q))
