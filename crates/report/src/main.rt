@@ -16,6 +16,7 @@ use sink::block_file::BlockFile;
 use sink::fault::Refusal;
 use statement::{Refused, Statement};
 use std::io::Write;
+use std::process::ExitCode;
 use std::{env, fs};
 use util::packed::count_items;
 
@@ -27,8 +28,8 @@ const EXAMPLES: [&str; 5] = ["par", "zero coupon", "\"dirty\" price", "act\\act 
 // The refusal of a record, as an error.
 fn refused(rt: &HostRuntime, path: &str, refusal: Refusal) -> anyhow::Error {
     match format!(in rt.alloc(); "{}", Refused { path, refusal }) {
-        Ok(text) => text.into(),
-        Err(_) => "no memory".into(),
+        Ok(text) => anyhow!(text),
+        Err(_) => anyhow!("no memory"),
     }
 }
 
@@ -140,10 +141,12 @@ fn run(rt: &HostRuntime) -> anyhow::Result<()> {
     }
 }
 
-fn main(rt: HostRuntime) -> anyhow::Result<()> {
-    let done = run(&rt);
-    if let Err(why) = &done {
-        eprintln!(rt; "report: {why}")?;
+fn main(rt: HostRuntime) -> ExitCode {
+    match run(&rt) {
+        Ok(()) => ExitCode::SUCCESS,
+        Err(why) => {
+            let _ = eprintln!(rt; "report: {why}");
+            ExitCode::FAILURE
+        }
     }
-    done
 }
