@@ -27,14 +27,14 @@ fn blocks(heap: Global, bytes: &[(usize, u8)]) -> Result<Vec<u8>, Fail> {
     Ok(all)
 }
 
-// Checks that the bytes are not opened, and come back as they were.
-fn unopened(rt: &impl Abort, bytes: Vec<u8>, why: Refusal) -> Result<(), Fail> {
+// Checks that the bytes are not opened, and come back as they were; a failure tells what was wrong with them.
+fn unopened(rt: &impl Abort, bytes: Vec<u8>, why: Refusal, wrong: &str) -> Result<(), Fail> {
     let same = bytes.clone()?;
     match BlockFile::open(bytes) {
         Ok(_) => Err(Fail::new("opened")),
         Err(unopened) => {
-            assert_eq!(rt; unopened.refusal, why);
-            assert!(rt; unopened.bytes == same);
+            assert_eq!(rt; unopened.refusal, why, "{wrong}, {} bytes", same.len());
+            assert!(rt; unopened.bytes == same, "{wrong}, {} bytes", same.len());
             Ok(())
         }
     }
@@ -122,7 +122,7 @@ fn reads_a_part(rt: HostRuntime) -> Result<(), Fail> {
 fn other_sizes(rt: HostRuntime) -> Result<(), Fail> {
     let heap = rt.alloc();
     for size in [0, 511, 513, 1_049_088] {
-        unopened(&rt, vec![in heap; 0; size]?, Refusal::Size).note(size)?;
+        unopened(&rt, vec![in heap; 0; size]?, Refusal::Size, "the size")?;
     }
     Ok(())
 }
@@ -147,14 +147,24 @@ fn damaged(rt: HostRuntime) -> Result<(), Fail> {
     let first = [(0, 97), (509, 1), (510, 98), (511, 1)];
     let second = [(512, 97), (1021, 1), (1022, 98), (1023, 1)];
     holds(&rt, heap, &opened(blocks(heap, &first)?)?, b"a")?;
-    unopened(&rt, blocks(heap, &second)?, Refusal::Damaged).note("a gap")?;
-    unopened(&rt, blocks(heap, &[(510, 1)])?, Refusal::Damaged).note("the sum")?;
-    unopened(&rt, blocks(heap, &[(1023, 1)])?, Refusal::Damaged).note("the running sum")?;
+    unopened(&rt, blocks(heap, &second)?, Refusal::Damaged, "a gap")?;
+    unopened(&rt, blocks(heap, &[(510, 1)])?, Refusal::Damaged, "the sum")?;
+    unopened(
+        &rt,
+        blocks(heap, &[(1023, 1)])?,
+        Refusal::Damaged,
+        "the running sum",
+    )?;
     // A count of 509, and a byte that no count covers: their checks are right.
     let count = [(508, 1), (509, 253), (510, 254), (511, 0)];
-    unopened(&rt, blocks(heap, &count)?, Refusal::Damaged).note("the count")?;
+    unopened(&rt, blocks(heap, &count)?, Refusal::Damaged, "the count")?;
     let unused = [(507, 1), (510, 1), (511, 3)];
-    unopened(&rt, blocks(heap, &unused)?, Refusal::Damaged).note("an unused byte")
+    unopened(
+        &rt,
+        blocks(heap, &unused)?,
+        Refusal::Damaged,
+        "an unused byte",
+    )
 }
 
 // Opens memory that has the size of a byte area.
@@ -188,10 +198,10 @@ fn area_takes(rt: HostRuntime) -> Result<(), Fail> {
     let mut area = area(vec![in heap; 9; 5]?)?;
     area.put(b"ab")?;
     assert_eq!(rt; area.put(b"cdef"), Err(SinkFault { wanted: 4, left: 3 }));
-    assert_eq!(rt; area.held_bytes(), b"ab");
+    assert_eq!(rt; area.held_bytes(), b"ab".as_slice());
     assert_eq!(rt; area.bytes_left(), 3);
     area.put(b"c")?;
-    assert_eq!(rt; area.into_bytes().as_slice(), b"abc\x09\x09");
+    assert_eq!(rt; area.into_bytes().as_slice(), b"abc\x09\x09".as_slice());
     Ok(())
 }
 
@@ -210,7 +220,7 @@ fn area_full(rt: HostRuntime) -> Result<(), Fail> {
     );
     area.put(b"abc")?;
     assert_eq!(rt; area.put(b"d"), Err(SinkFault { wanted: 1, left: 0 }));
-    assert_eq!(rt; area.into_bytes().as_slice(), b"abc");
+    assert_eq!(rt; area.into_bytes().as_slice(), b"abc".as_slice());
     Ok(())
 }
 

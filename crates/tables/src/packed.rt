@@ -47,7 +47,7 @@ fn too_long(rt: HostRuntime) -> Result<(), Fail> {
     let mut list = Vec::new(heap);
     assert_eq!(rt; push_item(&mut list, b"a"), Ok(()));
     assert_eq!(rt; push_item(&mut list, &item), Err(PackError::Long));
-    assert!(rt; list.as_slice() == b"\x00\x01a");
+    assert!(rt; list.as_slice() == b"\x00\x01a".as_slice());
     Ok(())
 }
 

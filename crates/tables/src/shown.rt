@@ -58,6 +58,6 @@ fn quotes(rt: HostRuntime) -> Result<(), Fail> {
     add_line(&rt, &mut lines, b"\"a\"")?;
     add_line(&rt, &mut lines, b"\"a b\"")?;
     add_line(&rt, &mut lines, b"a\\ b")?;
-    assert!(rt; lines.as_slice() == b"\"\"\n\"a\"\n\"\\\"a b\\\"\"\n\"a\\\\ b\"\n");
+    assert!(rt; lines.as_slice() == b"\"\"\n\"a\"\n\"\\\"a b\\\"\"\n\"a\\\\ b\"\n".as_slice());
     Ok(())
 }
