@@ -1,6 +1,6 @@
 -- What closes a message: a gap, a usage, an ending. Each is read back.
 use Rattle.std.proofs.Common.{◌≡◌, Bool, true, false, [], ◌∷◌, ◌++◌, Some, None, codes, refl}
-use mathlib.Core.Option.{Option, none, some}
+use mathlib.Core.Option.{none, some}
 use Rattle.std.specs.declared.option.Option as std
 use Rattle.sheet.specs.Parts.{Text, byte, whole, erased}
 use Rattle.account.specs.Account.{Ending, flag, closed, bare}

@@ -1,5 +1,5 @@
 -- That meter and printer keep the laws of a taker: what their ghost items cite. Proofs, and nothing to know of them.
-use Rattle.std.specs.Prelude.{◌≡◌, ℕ, ◌+◌, ◌<◌, List, [], ◌∷◌, ◌++◌, length, Option, refl}
+use Rattle.std.specs.Prelude.{◌≡◌, ℕ, ◌+◌, ◌<◌, List, ◌++◌, length, Option, refl}
 use Rattle.std.proofs.Common.{sym, ap, ◌∙◌, append_assoc, append-nil, arith, length-append}
 use Rattle.sheet.specs.Parts.{Part}
 use Rattle.sheet.specs.Sheets.{Joins, showing}

@@ -1,12 +1,12 @@
 -- What a terminal that follows ECMA-48 shows of a text in a style.
-use Rattle.std.proofs.Common.{◌≡◌, ℕ, Bool, true, false, cond, eqb, List, [], ◌∷◌, ◌++◌, map, Some, None, Option, refl, ap, ◌∙◌}
+use Rattle.std.proofs.Common.{◌≡◌, Bool, true, false, [], ◌∷◌, ◌++◌, map, Some, None, Option, refl, ap, ◌∙◌}
 use Rattle.std.proofs.lemmas.Bool.{ne_eqb}
 use Rattle.builder.specs.Marks.{color_mark, reset, styled_text}
 use Rattle.builder.specs.Styling.{plain_style}
 use Rattle.builder.specs.declared.styling.AnsiColor.{AnsiColor}
 use Rattle.builder.specs.declared.styling.AnsiColor.TheVariants.{Black, Red, Green, Yellow, Blue, Magenta, Cyan, White}
 use Rattle.builder.specs.declared.styling.Style.{Style}
-use Rattle.sheet.specs.Ecma48.{in_text, Reading, shows, read_from, reading, all_in}
+use Rattle.sheet.specs.Ecma48.{in_text, shows, read_from, reading, all_in}
 use Rattle.sheet.specs.Laws.{TerminalRenders}
 use Rattle.sheet.specs.Parts.{Text}
 use Rattle.sheet.specs.Terminal.{Clear, style_for}

@@ -4,8 +4,8 @@ use Rattle.std.proofs.Math.Option.{Option, none, some, none-ne-some, some-inject
 use Rattle.std.proofs.Common.{sym, ◌∙◌, ap, ap₂}
 use Rattle.std.specs.List.{flat_map, AllByRecursion}
 use Rattle.std.proofs.lemmas.List.{append_cancel_left}
-use Rattle.sheet.specs.Parts.{Text, Label, Part, fixed, tidy, Tidy, OfTexts, Symbol, symbols}
-use Rattle.sheet.specs.Sheets.{showing, Legible}
+use Rattle.sheet.specs.Parts.{Text, Label, Part, fixed, Symbol, symbols}
+use Rattle.sheet.specs.Sheets.{Legible}
 use Rattle.sheet.specs.Symbols.{shown_symbol, showing_symbols, same_tidy, tidy_own}
 
 -- a code can be read where P holds: one reader tells the first symbol's view, whatever follows it

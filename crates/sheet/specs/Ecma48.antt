@@ -1,5 +1,5 @@
 -- How a terminal reads bytes, after ECMA-48, as far as styles need it. A control sequence is CSI, which is ESC 5B, then parameter bytes 30 to 3F, intermediate bytes 20 to 2F and one final byte. SELECT GRAPHIC RENDITION has the final byte 6D and no intermediate byte.
-use Rattle.std.specs.Prelude.{ℕ, ◌+◌, ◌-◌, ◌*◌, Bool, true, cond, ◌&&◌, List, [], ◌∷◌, ◌++◌, map, Some, None, Option, ◌==◌, nat_le}
+use Rattle.std.specs.Prelude.{ℕ, ◌+◌, ◌-◌, ◌*◌, Bool, true, cond, ◌&&◌, List, [], ◌∷◌, ◌++◌, map, Some, ◌==◌, nat_le}
 use Rattle.builder.specs.Styling.{plain_style}
 use Rattle.builder.specs.declared.styling.AnsiColor.{AnsiColor}
 use Rattle.builder.specs.declared.styling.AnsiColor.TheVariants.{Black, Red, Green, Yellow, Blue, Magenta, Cyan, White}

@@ -2,14 +2,12 @@
 use Rattle.std.specs.Prelude.{◌≡◌, ℕ, List, ◌++◌}
 use Rattle.std.specs.List.{AllByRecursion}
 use Rattle.builder.specs.Roles.{style_of, standard}
-use Rattle.builder.specs.declared.styling.Style.{Style}
 use Rattle.builder.specs.declared.styling.StyledRole.{StyledRole}
 use Rattle.builder.specs.declared.styling.Styles.{Styles}
 use Rattle.sheet.specs.Ecma48.{reading, all_in}
-use Rattle.sheet.specs.Page.{Elements, element, page_by, page}
+use Rattle.sheet.specs.Page.{Elements, element, page_by}
 use Rattle.sheet.specs.Parts.{Text, Label, Part, labelled, tidy, Tidy, symbols, symbols_by, fixed}
 use Rattle.sheet.specs.Sheets.{showing, Legible}
-use Rattle.sheet.specs.Tag.{tag}
 use Rattle.sheet.specs.Terminal.{style_for, terminal, Clear, Readable, NonePlain}
 
 -- the tidy list of any list is tidy, and a tidy list is its own

@@ -1,5 +1,5 @@
 -- Pages are legible, under any six element names that they may have.
-use Rattle.std.specs.Prelude.{◌≡◌, ℕ, ◌+◌, ◌-◌, ◌*◌, ◌/◌, ◌%◌, ◌<◌, ◌≤◌, Bool, true, false, cond, not, ◌&&◌, List, [], ◌∷◌, ◌++◌, length, drop, codes, ◌==◌, ◌≢◌, nat_eq, nat_lt, slice_index, refl}
+use Rattle.std.specs.Prelude.{◌≡◌, ℕ, ◌+◌, ◌-◌, ◌*◌, ◌/◌, ◌%◌, ◌<◌, ◌≤◌, Bool, true, false, cond, not, ◌&&◌, [], ◌∷◌, ◌++◌, length, drop, codes, ◌==◌, ◌≢◌, nat_eq, nat_lt, slice_index, refl}
 use Rattle.std.proofs.Common.{⊎_elim, sym, ◌∙◌, ap, ap₂, arith}
 use Rattle.std.proofs.Math.Option.{Option, none, some, some-injective}
 use Rattle.std.specs.List.{flat_map, AllByRecursion}
@@ -9,7 +9,7 @@ use Rattle.util.specs.Shown.{hex_digit}
 use Rattle.util.proofs.Quotes.{joined_append}
 use Rattle.sheet.specs.Laws.{PagesLegible, PageElements}
 use Rattle.sheet.specs.Page.{control, page_byte, page_by, Elements, element, page}
-use Rattle.sheet.specs.Parts.{Text, Label, error, valid, invalid, literal, given, ready, Part, labelled, Symbol, byte, whole}
+use Rattle.sheet.specs.Parts.{Text, Label, error, valid, invalid, literal, given, ready, labelled, Symbol, byte, whole}
 use Rattle.sheet.specs.Sheets.{Legible}
 use Rattle.sheet.specs.Codes.{Reads, Any, legible}
 use Rattle.sheet.specs.Loops.{many, many_reads}

@@ -1,5 +1,4 @@
-use Rattle.std.proofs.Common.{◌≡◌, ℕ, List, [], ◌∷◌, ◌++◌, map, vec_items, sym, ap, ◌∙◌, inr, append_assoc}
-use Rattle.journal.specs.Shown.{SomeLong}
+use Rattle.std.proofs.Common.{◌≡◌, ℕ, List, ◌++◌, map, vec_items, sym, ap, ◌∙◌, inr, append_assoc}
 use Rattle.util.specs.Packed.{items, pack_item, pack}
 use Rattle.util.specs.Shown.{shown}
 use Rattle.journal.proofs.message.shown_forms.Goals as goal

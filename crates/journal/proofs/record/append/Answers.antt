@@ -1,4 +1,4 @@
-use Rattle.std.proofs.Common.{ℕ, ◌+◌, List, ◌++◌, length, vec_items, sym, refl, ap, ◌∙◌, subst, append-nil, arith, length-append, length-take, rules}
+use Rattle.std.proofs.Common.{ℕ, List, ◌++◌, length, vec_items, sym, refl, ap, ◌∙◌, subst, append-nil, arith, length-append, length-take, rules}
 use Rattle.sink.specs.File.{file_held, Kept}
 use Rattle.sink.specs.Layout.{texts, full, used}
 use Rattle.std.proofs.lemmas.List.{nil_from_length}
