@@ -1,4 +1,4 @@
--- Of `same_key`: it decides whether two keys are one.
+-- Of `same_key`: it decides whether two keys are one. A proof, which an error's map asks for.
 use Rattle.std.specs.Prelude.{◌≡◌, Decides}
 use Rattle.std.proofs.Common.{rules}
 use Rattle.account.specs.Keys.{same_key}

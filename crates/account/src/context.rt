@@ -4,7 +4,7 @@ ghost use Rattle.account.specs.Keys.{name_of, same_key};
 ghost use Rattle.std.specs.Option.{option_map, unwrap_or};
 ghost use Rattle.std.specs.Cmp.Rules.{comparing};
 ghost use Rattle.std.proofs.Common.{rules};
-ghost use Rattle.std.specs.Cmp as Keys;
+ghost use Rattle.std.specs.Cmp.{partial_equiv_from_equiv};
 
 use flat_map::Key;
 use std::fmt;
@@ -69,7 +69,7 @@ impl fmt::Display for ContextKind {
 impl PartialEq for ContextKind {
     ghost eq = { λ x y. same_key x y };
 
-    ghost laws = { Keys.partial_equiv_from_equiv (Prim.search (comparing, rules)) };
+    ghost laws = { partial_equiv_from_equiv (Prim.search (comparing, rules)) };
 
     fn eq(&self, other: &ContextKind) -> bool {
         *self as u8 == *other as u8

@@ -4,7 +4,7 @@ ghost use Rattle.account.specs.Kinds.{wording_of, same_kind};
 ghost use Rattle.std.specs.Option.{option_map, unwrap_or};
 ghost use Rattle.std.specs.Cmp.Rules.{comparing};
 ghost use Rattle.std.proofs.Common.{rules};
-ghost use Rattle.std.specs.Cmp as Keys;
+ghost use Rattle.std.specs.Cmp.{partial_equiv_from_equiv};
 
 use std::fmt;
 
@@ -76,7 +76,7 @@ impl fmt::Display for ErrorKind {
 impl PartialEq for ErrorKind {
     ghost eq = { λ x y. same_kind x y };
 
-    ghost laws = { Keys.partial_equiv_from_equiv (Prim.search (comparing, rules)) };
+    ghost laws = { partial_equiv_from_equiv (Prim.search (comparing, rules)) };
 
     fn eq(&self, other: &ErrorKind) -> bool {
         *self as u8 == *other as u8

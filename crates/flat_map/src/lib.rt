@@ -1,7 +1,7 @@
 // A map that keeps its entries in the order in which they came, in slices of keys and of values that are lent to it.
 #![tactic(auto)]
 
-ghost use Rattle.std.specs.Prelude.{◌≡◌, ◌≤◌, min, Bool, [], ◌∷◌, ◌++◌, map, length, take, set, is_some, is_ok, Some, None, Decides, MatchOption, MatchResult, ◌==◌, nat_lt, slice_set};
+ghost use Rattle.std.specs.Prelude.{◌≡◌, ◌≤◌, min, Bool, [], ◌∷◌, ◌++◌, map, length, take, is_some, is_ok, Some, None, Decides, MatchOption, MatchResult, ◌==◌, nat_lt, slice_set};
 ghost use Rattle.std.specs.List.{slice_get};
 ghost use Rattle.std.specs.Option.{option_map};
 ghost use Rattle.flat_map.specs.Assoc.{first, closed, entries, lookup, put, without};

@@ -1,6 +1,6 @@
 // The line that lists values as a message, for any sheet: its values stand as valid words, in their shown forms.
 ghost use Rattle.std.specs.Prelude.{◌≡◌, ◌++◌, map, MatchResult};
-ghost use Rattle.journal.specs.Shown.{next as nextPart, line, NotPacked};
+ghost use Rattle.journal.specs.Shown.{next as next_part, line, NotPacked};
 ghost use Rattle.parts.specs.Takers.{Tells};
 ghost use Rattle.std.specs.List.{flat_map};
 ghost use Rattle.util.specs.Packed.{items as items_of, pack as packed};
@@ -35,7 +35,7 @@ pub struct Line<'a> {
 
 // Tells the values that follow the first one.
 fn tell_others<T: Taker>(forms: &[u8], to: &mut T) -> Result<(), SheetFault>
-    ensures { Tells T.Taker.steps T.Taker.fails to.old (flat_map nextPart (items_of forms.now)) to.new result }
+    ensures { Tells T.Taker.steps T.Taker.fails to.old (flat_map next_part (items_of forms.now)) to.new result }
 {
     let mut items = Items::new(forms);
     while let Some(text) = items.next() {

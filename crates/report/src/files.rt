@@ -1,9 +1,10 @@
 // Records on disk.
+use crate::failure::Failure;
 use std::fs;
 use std::io::Write;
 
 // The bytes of the file, or four empty blocks where there is none.
-pub(crate) fn read_record(rt: &HostRuntime, path: &str) -> anyhow::Result<Vec<u8>> {
+pub(crate) fn read_record(rt: &HostRuntime, path: &str) -> Result<Vec<u8>, Failure> {
     if fs::exists(rt, path)? {
         return Ok(fs::read(rt, path)?);
     }
@@ -11,7 +12,7 @@ pub(crate) fn read_record(rt: &HostRuntime, path: &str) -> anyhow::Result<Vec<u8
 }
 
 // Writes the bytes beside the file, and then moves them over it: whatever happens, one of the two is there, whole.
-pub(crate) fn save(rt: &HostRuntime, path: &str, bytes: &[u8]) -> anyhow::Result<()> {
+pub(crate) fn save(rt: &HostRuntime, path: &str, bytes: &[u8]) -> Result<(), Failure> {
     let beside = format!(in rt.alloc(); "{path}.new")?;
     let mut file = fs::create(rt, beside.as_str())?;
     file.write_all(bytes)?;

@@ -1,11 +1,12 @@
 // Lists values as a message does, keeps the line in a record, and shows it on the sheets that are chosen.
 #![tactic(auto)]
 
+mod failure;
 mod files;
 mod shown;
 mod statement;
 
-use anyhow::anyhow;
+use failure::Failure;
 use files::{read_record, save};
 use journal::listing::{listing, quoted_values};
 use journal::record::{append, holds, seal_of, text_of};
@@ -26,14 +27,14 @@ const RECORD: &str = "record.bin";
 const EXAMPLES: [&str; 5] = ["par", "zero coupon", "\"dirty\" price", "act\\act isda", ""];
 
 // The refusal of a record, as an error.
-fn refused(rt: &HostRuntime, path: &str, refusal: Refusal) -> anyhow::Error {
+fn refused(rt: &HostRuntime, path: &str, refusal: Refusal) -> Failure {
     match format!(in rt.alloc(); "{}", Refused { path, refusal }) {
-        Ok(text) => anyhow!(text),
-        Err(_) => anyhow!("no memory"),
+        Ok(text) => Failure::Refused(text),
+        Err(_) => Failure::Said("no memory"),
     }
 }
 
-fn open(rt: &HostRuntime, path: &str, bytes: Vec<u8>) -> anyhow::Result<BlockFile> {
+fn open(rt: &HostRuntime, path: &str, bytes: Vec<u8>) -> Result<BlockFile, Failure> {
     match BlockFile::open(bytes) {
         Ok(file) => Ok(file),
         Err(back) => Err(refused(rt, path, back.refusal)),
@@ -41,7 +42,7 @@ fn open(rt: &HostRuntime, path: &str, bytes: Vec<u8>) -> anyhow::Result<BlockFil
 }
 
 // Puts the line into the record on disk, reads it back, and states how.
-fn record_line(rt: &HostRuntime, list: &[u8], line: &[u8]) -> anyhow::Result<()> {
+fn record_line(rt: &HostRuntime, list: &[u8], line: &[u8]) -> Result<(), Failure> {
     let heap = rt.alloc();
     let mut file = open(rt, RECORD, read_record(rt, RECORD)?)?;
     let touched = match append(&mut file, line) {
@@ -52,7 +53,7 @@ fn record_line(rt: &HostRuntime, list: &[u8], line: &[u8]) -> anyhow::Result<()>
     let again = open(rt, RECORD, fs::read(rt, RECORD)?)?;
     let text = text_of(heap, &file)?;
     if !holds(heap, &again, &text)? {
-        return Err(anyhow!("the record on disk does not hold what was put"));
+        return Err(Failure::Said("the record on disk does not hold what was put"));
     }
     let quoted = quoted_values(heap, list)?;
     let statement = Statement {
@@ -70,11 +71,11 @@ fn record_line(rt: &HostRuntime, list: &[u8], line: &[u8]) -> anyhow::Result<()>
 }
 
 // Lists the values, shows the line on the sheets chosen, and records it.
-fn list_values(rt: &HostRuntime, values: &[String], choices: &[Choice]) -> anyhow::Result<()> {
+fn list_values(rt: &HostRuntime, values: &[String], choices: &[Choice]) -> Result<(), Failure> {
     let heap = rt.alloc();
     let list = match pack(heap, values) {
         Ok(list) => list,
-        Err(why) => return Err(anyhow!(format!(in heap; "{why}")?)),
+        Err(why) => return Err(Failure::Refused(format!(in heap; "{why}")?)),
     };
     let mut line = listing(heap, &list)?;
     line.push(b'\n')?;
@@ -84,9 +85,9 @@ fn list_values(rt: &HostRuntime, values: &[String], choices: &[Choice]) -> anyho
 }
 
 // Writes what a record holds.
-fn show(rt: &HostRuntime, path: &str) -> anyhow::Result<()> {
+fn show(rt: &HostRuntime, path: &str) -> Result<(), Failure> {
     if !fs::exists(rt, path)? {
-        return Err(anyhow!(format!(in rt.alloc(); "{path}: no such file")?));
+        return Err(Failure::Refused(format!(in rt.alloc(); "{path}: no such file")?));
     }
     let file = open(rt, path, fs::read(rt, path)?)?;
     let text = text_of(rt.alloc(), &file)?;
@@ -95,14 +96,14 @@ fn show(rt: &HostRuntime, path: &str) -> anyhow::Result<()> {
 }
 
 // Takes the sheets that the words begin with, each behind `--sheet`, and tells how many words that were.
-fn choose(rt: &HostRuntime, words: &[String], choices: &mut Vec<Choice>) -> anyhow::Result<usize> {
+fn choose(rt: &HostRuntime, words: &[String], choices: &mut Vec<Choice>) -> Result<usize, Failure> {
     let mut taken: usize = 0;
     for pair in words.chunks_exact(2) {
         if pair[0].as_str() != "--sheet" {
             break;
         }
         let Some(choice) = Choice::from_word(pair[1].as_str()) else {
-            return Err(anyhow!(format!(in rt.alloc(); "{}: no such sheet", pair[1])?));
+            return Err(Failure::Refused(format!(in rt.alloc(); "{}: no such sheet", pair[1])?));
         };
         choices.push(choice)?;
         taken = taken.saturating_add(2);
@@ -111,7 +112,7 @@ fn choose(rt: &HostRuntime, words: &[String], choices: &mut Vec<Choice>) -> anyh
 }
 
 // Lists the words, or the examples where there is none.
-fn list_words(rt: &HostRuntime, words: &[String], choices: &[Choice]) -> anyhow::Result<()> {
+fn list_words(rt: &HostRuntime, words: &[String], choices: &[Choice]) -> Result<(), Failure> {
     match words {
         [] => {
             let mut values = Vec::new(rt.alloc());
@@ -125,7 +126,7 @@ fn list_words(rt: &HostRuntime, words: &[String], choices: &[Choice]) -> anyhow:
     }
 }
 
-fn run(rt: &HostRuntime) -> anyhow::Result<()> {
+fn run(rt: &HostRuntime) -> Result<(), Failure> {
     let heap = rt.alloc();
     let words: Vec<String> = env::args(rt)?.skip(1).collect(heap)?;
     match words.as_slice() {

@@ -1,7 +1,7 @@
 // The line on the sheets that were chosen.
+use crate::failure::Failure;
 use crate::files::save;
 use crate::statement::Overlong;
-use anyhow::anyhow;
 use builder::styling::Styles;
 use journal::message::{Line, shown_forms};
 use parts::{measure, print};
@@ -62,24 +62,24 @@ impl Choice {
 }
 
 // The bytes of the line on a sheet.
-fn line_on<S: Sheet>(rt: &HostRuntime, forms: &[u8], sheet: &S) -> anyhow::Result<ByteArea> {
+fn line_on<S: Sheet>(rt: &HostRuntime, forms: &[u8], sheet: &S) -> Result<ByteArea, Failure> {
     let line = Line { forms };
     let wanted = measure(&line, sheet).unwrap_or(u64::MAX);
     if wanted > 1_048_576 {
-        return Err(anyhow!(format!(in rt.alloc(); "{}", Overlong { wanted })?));
+        return Err(Failure::Refused(format!(in rt.alloc(); "{}", Overlong { wanted })?));
     }
     let memory = vec![in rt.alloc(); 0u8; wanted as usize]?;
     match ByteArea::open(memory) {
         Ok(mut area) => match print(&line, sheet, &mut area) {
             Ok(()) => Ok(area),
-            Err(_) => Err(anyhow!("the line did not fit into the area that was made for it")),
+            Err(_) => Err(Failure::Said("the line did not fit into the area that was made for it")),
         },
-        Err(_) => Err(anyhow!("the area for the line was refused")),
+        Err(_) => Err(Failure::Said("the area for the line was refused")),
     }
 }
 
 // Writes the page around the sheet's bytes.
-fn save_page(rt: &HostRuntime, bytes: &[u8]) -> anyhow::Result<()> {
+fn save_page(rt: &HostRuntime, bytes: &[u8]) -> Result<(), Failure> {
     let mut page = Vec::new(rt.alloc());
     page.extend_from_slice(HEAD)?;
     page.extend_from_slice(bytes)?;
@@ -88,7 +88,7 @@ fn save_page(rt: &HostRuntime, bytes: &[u8]) -> anyhow::Result<()> {
 }
 
 // Shows the line on one sheet: on standard output, or as a page in its file.
-fn show_on(rt: &HostRuntime, forms: &[u8], choice: Choice) -> anyhow::Result<()> {
+fn show_on(rt: &HostRuntime, forms: &[u8], choice: Choice) -> Result<(), Failure> {
     let area = match choice {
         Choice::Terminal => line_on(
             rt,
@@ -114,12 +114,17 @@ fn show_on(rt: &HostRuntime, forms: &[u8], choice: Choice) -> anyhow::Result<()>
     Ok(())
 }
 
-// Shows the line of the values on each sheet chosen.
-pub(crate) fn show_line(rt: &HostRuntime, list: &[u8], choices: &[Choice]) -> anyhow::Result<()> {
+// Shows the line of the values on each sheet chosen; without one, nothing is done that could fail.
+pub(crate) fn show_line(rt: &HostRuntime, list: &[u8], choices: &[Choice]) -> Result<(), Failure> {
+    if choices.is_empty() {
+        return Ok(());
+    }
     let forms = match shown_forms(rt.alloc(), list) {
         Ok(forms) => forms,
-        Err(PackError::Long) => return Err(anyhow!("a shown form has more than 65,535 bytes")),
-        Err(PackError::NoMemory) => return Err(anyhow!("no memory")),
+        Err(PackError::Long) => return Err(Failure::Said(
+            "a shown form has more than 65,535 bytes",
+        )),
+        Err(PackError::NoMemory) => return Err(Failure::Said("no memory")),
     };
     for choice in choices {
         show_on(rt, &forms, *choice)?;

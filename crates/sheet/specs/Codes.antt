@@ -1,4 +1,4 @@
--- A code from which a reader can take one symbol after the other is uniquely readable.
+-- A code from which a reader can take one symbol after the other is uniquely readable. Proofs, and nothing to know of a sheet.
 use Rattle.std.specs.Prelude.{◌≡◌, ℕ, List, [], ◌∷◌, ◌++◌, map, refl}
 use Rattle.std.proofs.Math.Option.{Option, none, some, none-ne-some, some-injective}
 use Rattle.std.proofs.Common.{sym, ◌∙◌, ap, ap₂}

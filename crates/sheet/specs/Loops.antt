@@ -1,4 +1,4 @@
--- Readers of a list of items: as many of them as there are.
+-- Readers of a list of items: as many of them as there are. Proofs, and nothing to know of a sheet.
 use Rattle.std.specs.Prelude.{◌≡◌, ℕ, zero, suc, ◌≤◌, List, [], ◌∷◌, ◌++◌, length, refl}
 use Rattle.std.proofs.Math.Option.{Option, none, some}
 use Rattle.std.proofs.Common.{◌∙◌, ap, zero-le, le_of_suc-le-suc, not-suc-le-zero, arith}

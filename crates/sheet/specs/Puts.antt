@@ -1,4 +1,4 @@
--- One put after another, and texts that are put byte by byte.
+-- One put after another, and texts that are put byte by byte. Proofs, and nothing to know of a sheet.
 use Rattle.std.specs.Prelude.{◌≡◌, ℕ, ◌+◌, ◌-◌, ◌<◌, true, List, [], ◌∷◌, ◌++◌, length, take, drop, is_err, Result, slice_index, refl}
 use Rattle.std.proofs.Common.{sym, ap, ◌∙◌, append_assoc, append-nil, arith, length-append, take-add}
 use Rattle.std.specs.List.{flat_map}

@@ -1,4 +1,4 @@
--- Lists of parts by their symbols: tidying keeps them, and they tell a tidy list.
+-- Lists of parts by their symbols: tidying keeps them, and they tell a tidy list. Proofs, and nothing to know of a sheet.
 use Rattle.std.specs.Prelude.{◌≡◌, ℕ, List, [], ◌∷◌, ◌++◌, map, length, refl}
 use Rattle.std.proofs.Common.{sym, ◌∙◌, ap, ap₂, arith}
 use Rattle.std.specs.List.{flat_map}

@@ -1,4 +1,4 @@
--- The tag sheet is legible.
+-- The tag sheet is legible. Proofs, and nothing to know of a sheet.
 use Rattle.std.specs.Prelude.{◌≡◌, ℕ, Bool, true, false, cond, [], ◌∷◌, ◌++◌, ◌==◌, refl}
 use Rattle.std.proofs.Math.Option.{Option, none, some}
 use Rattle.std.proofs.Common.{sym, ◌∙◌, ap, ap₂}
