@@ -67,7 +67,7 @@ impl fmt::Display for ContextKind {
 }
 
 impl PartialEq for ContextKind {
-    ghost eq = { λ x y. same_key x y };
+    ghost eq = { same_key };
 
     ghost laws = { partial_equiv_from_equiv (Prim.search (comparing, rules)) };
 

@@ -74,7 +74,7 @@ impl fmt::Display for ErrorKind {
 }
 
 impl PartialEq for ErrorKind {
-    ghost eq = { λ x y. same_kind x y };
+    ghost eq = { same_kind };
 
     ghost laws = { partial_equiv_from_equiv (Prim.search (comparing, rules)) };
 

@@ -148,7 +148,7 @@ pub enum StyledRole {
 }
 
 impl PartialEq for StyledRole {
-    ghost eq = { λ x y. same_role x y };
+    ghost eq = { same_role };
 
     ghost laws = { Prim.search (comparing, rules) };
 

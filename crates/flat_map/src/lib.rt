@@ -12,7 +12,7 @@ ghost use Rattle.flat_map.specs.Maps.{entries_of, places_of, SameSpare, Cleared,
 pub trait Key: PartialEq + Copy {
     ghost same: { Self → Self → Bool };
 
-    ghost told: { (x y : Self) (b : Bool) → (b ≡ Self.PartialEq.eq x y) → b ≡ same x y };
+    ghost told: { (x y : Self) (b : Bool) → b ≡ Self.PartialEq.eq x y → b ≡ same x y };
 
     ghost exact: { (x y : Self) → Decides (same x y) (x ≡ y) };
 }

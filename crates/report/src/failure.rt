@@ -4,7 +4,7 @@ use std::fmt;
 
 // A refusal that names what was refused, another one, or the error of a call. The first two are told whole; an `anyhow::Error` has room for 120 bytes.
 #[derive(Drop)]
-pub enum Failure {
+pub(crate) enum Failure {
     Refused(String),
     Said(&'static str),
     Call(anyhow::Error),

@@ -1,5 +1,5 @@
 // Sheets that frame a text: something before it, something after it, and the text byte by byte, most bytes as they are and some by a code.
-ghost use Rattle.std.specs.Prelude.{◌≡◌, ℕ, ◌<◌, ◌≤◌, true, List, [], ◌∷◌, length, take, MatchResult};
+ghost use Rattle.std.specs.Prelude.{◌≡◌, ◌≢◌, ℕ, ◌<◌, ◌≤◌, true, false, List, [], ◌∷◌, length, take, slice_index, MatchResult};
 ghost use Rattle.std.specs.List.{flat_map};
 ghost use Rattle.sheet.specs.Frames.{framing, edge, Puts};
 ghost use Rattle.sheet.specs.Parts.{Label};
@@ -37,7 +37,8 @@ pub trait Markup {
 
     // Whether a byte is shown as it is.
     fn is_plain(&self, b: u8) -> bool
-        ensures { result ≡ true → coded self.now b ≡ b ∷ [] };
+        ensures plain { result ≡ true → coded self.now b ≡ b ∷ [] }
+        ensures marked { result ≡ false → coded self.now b ≢ b ∷ [] };
 
     // What a byte is shown as.
     fn code(&self, b: u8) -> Code
@@ -58,10 +59,11 @@ pub fn measure<M: Markup>(markup: &M, role: Role, text: &[u8]) -> Option<u64>
     total.checked_add(markup.closing(role).len() as u64)
 }
 
-// How many bytes at the front are shown as they are.
+// How many bytes at the front are shown as they are: up to the first that is not.
 fn plain_run<M: Markup>(markup: &M, text: &[u8]) -> usize
     ensures bound { result ≤ length text.now }
     ensures same { flat_map (M.Markup.coded markup.now) (take result text.now) ≡ take result text.now }
+    ensures longest { result < length text.now → M.Markup.coded markup.now (slice_index text.now result) ≢ slice_index text.now result ∷ [] }
 {
     for (i, b) in text.iter().enumerate() {
         if !markup.is_plain(*b) {

@@ -11,7 +11,7 @@ use std::test::Fail;
 struct Id(u8);
 
 impl Key for Id {
-    ghost same = { λ x y. (x.0 == y.0) };
+    ghost same = { λ x y. x.0 == y.0 };
 
     ghost told = { Prim.search rules };
 

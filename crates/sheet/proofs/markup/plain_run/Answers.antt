@@ -9,4 +9,4 @@ loop-i-preserved g c =
     let t = c.args.text.now in
     let i = c.loop-i.i in
     let h = c.loop-i-test.true in
-    coded_more code t i h ∙ ap₂ ◌++◌ c.loop-i.invariant (c.is_plain.ensures c.if-not-is_plain.false) ∙ sym (take_more t i 0 h)
+    coded_more code t i h ∙ ap₂ ◌++◌ c.loop-i.invariant (c.is_plain.ensures.plain c.if-not-is_plain.false) ∙ sym (take_more t i 0 h)
