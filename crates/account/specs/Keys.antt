@@ -1,5 +1,5 @@
--- The keys of an error's entries: their names, and when two are the same.
-use Rattle.std.specs.Prelude.{ℕ, Bool, Some, None, codes, Option, ◌==◌}
+-- The keys of an error's entries and their names.
+use Rattle.std.specs.Prelude.{Some, None, codes, Option}
 use Rattle.sheet.specs.Parts.{Text}
 use Rattle.account.specs.declared.context.ContextKind.{ContextKind}
 use Rattle.account.specs.declared.context.ContextKind.TheVariants as is
@@ -23,27 +23,3 @@ name_of is.TrailingArg = Some (codes "Trailing Argument")
 name_of is.Suggested = Some (codes "Suggested")
 name_of is.Usage = None
 name_of is.Custom = None
-
--- the number of a key, in the order in which they are declared
-abbrev pub number_of : ContextKind → ℕ
-number_of is.InvalidSubcommand = 0
-number_of is.InvalidArg = 1
-number_of is.PriorArg = 2
-number_of is.ValidSubcommand = 3
-number_of is.ValidValue = 4
-number_of is.InvalidValue = 5
-number_of is.ActualNumValues = 6
-number_of is.ExpectedNumValues = 7
-number_of is.MinValues = 8
-number_of is.SuggestedCommand = 9
-number_of is.SuggestedSubcommand = 10
-number_of is.SuggestedArg = 11
-number_of is.SuggestedValue = 12
-number_of is.TrailingArg = 13
-number_of is.Suggested = 14
-number_of is.Usage = 15
-number_of is.Custom = 16
-
--- whether two keys are the same
-abbrev pub same_key : ContextKind → ContextKind → Bool
-same_key a b = number_of a == number_of b

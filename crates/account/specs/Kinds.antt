@@ -1,5 +1,5 @@
--- The kinds of errors: their wording, and when two are the same.
-use Rattle.std.specs.Prelude.{ℕ, Bool, Some, None, codes, Option, ◌==◌}
+-- The kinds of errors and their wording.
+use Rattle.std.specs.Prelude.{Some, None, codes, Option}
 use Rattle.sheet.specs.Parts.{Text}
 use Rattle.account.specs.declared.kind.ErrorKind.{ErrorKind}
 use Rattle.account.specs.declared.kind.ErrorKind.TheVariants as is
@@ -23,27 +23,3 @@ wording_of is.DisplayHelpOnMissingArgumentOrSubcommand = None
 wording_of is.DisplayVersion = None
 wording_of is.Io = None
 wording_of is.Format = None
-
--- the number of a kind, in the order in which they are declared
-abbrev pub number_of : ErrorKind → ℕ
-number_of is.InvalidValue = 0
-number_of is.UnknownArgument = 1
-number_of is.InvalidSubcommand = 2
-number_of is.NoEquals = 3
-number_of is.ValueValidation = 4
-number_of is.TooManyValues = 5
-number_of is.TooFewValues = 6
-number_of is.WrongNumberOfValues = 7
-number_of is.ArgumentConflict = 8
-number_of is.MissingRequiredArgument = 9
-number_of is.MissingSubcommand = 10
-number_of is.InvalidUtf8 = 11
-number_of is.DisplayHelp = 12
-number_of is.DisplayHelpOnMissingArgumentOrSubcommand = 13
-number_of is.DisplayVersion = 14
-number_of is.Io = 15
-number_of is.Format = 16
-
--- whether two kinds are the same
-abbrev pub same_kind : ErrorKind → ErrorKind → Bool
-same_kind a b = number_of a == number_of b

@@ -1,5 +1,5 @@
 -- What holds of kinds and keys, and the one reading of a message.
-use Rattle.std.specs.Prelude.{◌≡◌, ℕ, true, false, List, [], ◌∷◌, None, Decides, ◌≢◌}
+use Rattle.std.specs.Prelude.{◌≡◌, ℕ, Bool, true, false, List, [], ◌∷◌, None, Decides, ◌≢◌}
 use Rattle.std.specs.Option.{option_map}
 use Rattle.std.specs.List.{AllByRecursion}
 use Rattle.builder.specs.Roles.{style_of, standard}
@@ -9,18 +9,17 @@ use Rattle.sheet.specs.Parts.{Part, fixed, tidy, OfTexts, erased}
 use Rattle.sheet.specs.Sheets.{Legible}
 use Rattle.sheet.specs.Terminal.{terminal, Readable, NonePlain}
 use Rattle.account.specs.Account.{Account, says, unknown, closed, bare, worded, Proper}
-use Rattle.account.specs.Keys.{same_key}
-use Rattle.account.specs.Kinds.{same_kind, wording_of}
+use Rattle.account.specs.Kinds.{wording_of}
 use Rattle.account.specs.Wording.{stated, parts, printed}
 use Rattle.account.specs.declared.context.ContextKind.{ContextKind}
 use Rattle.account.specs.declared.kind.ErrorKind.{ErrorKind}
 
--- kinds, and keys, are the same exactly if they are equal
-abbrev pub KindsTold : Type 0
-KindsTold = (x y : ErrorKind) → Decides (same_kind x y) (x ≡ y)
+-- what a test of two kinds, or of two keys, answers: whether they are the same
+abbrev pub KindsTold : (ErrorKind → ErrorKind → Bool) → Type 0
+KindsTold same = (x y : ErrorKind) → Decides (same x y) (x ≡ y)
 
-abbrev pub KeysTold : Type 0
-KeysTold = (x y : ContextKind) → Decides (same_key x y) (x ≡ y)
+abbrev pub KeysTold : (ContextKind → ContextKind → Bool) → Type 0
+KeysTold same = (x y : ContextKind) → Decides (same x y) (x ≡ y)
 
 -- what a kind's wording says is said by that wording and nothing else
 abbrev pub WordingStated : Type 0

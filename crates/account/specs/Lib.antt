@@ -2,6 +2,5 @@ pub mod Account
 pub mod Keys
 pub mod Kinds
 pub mod Laws
-pub mod SameKeys
 pub mod Values
 pub mod Wording

@@ -1,16 +1,14 @@
 // What an error holds beside its kind: entries, each a key and a value.
 ghost use Rattle.std.specs.Prelude.{◌≡◌, [], Some};
-ghost use Rattle.account.specs.Keys.{name_of, same_key};
+ghost use Rattle.account.specs.Keys.{name_of};
 ghost use Rattle.std.specs.Option.{option_map, unwrap_or};
-ghost use Rattle.std.specs.Cmp.Rules.{comparing};
 ghost use Rattle.std.proofs.Common.{rules};
-ghost use Rattle.std.specs.Cmp.{partial_equiv_from_equiv};
 
 use flat_map::Key;
 use std::fmt;
 
 // What an entry tells.
-#[derive(Clone, Copy, Debug)]
+#[derive(Clone, Copy, Debug, PartialEq, Eq)]
 pub enum ContextKind {
     InvalidSubcommand,
     InvalidArg,
@@ -58,6 +56,7 @@ impl ContextKind {
 }
 
 // The name of the key, or nothing.
+// An impl here and one for `ErrorKind`: no impl of another crate's trait may be for every type.
 impl fmt::Display for ContextKind {
     ghost output = { λ k. Some (unwrap_or (name_of k) []) };
 
@@ -66,28 +65,8 @@ impl fmt::Display for ContextKind {
     }
 }
 
-impl PartialEq for ContextKind {
-    ghost eq = { same_key };
-
-    ghost laws = { partial_equiv_from_equiv (Prim.search (comparing, rules)) };
-
-    fn eq(&self, other: &ContextKind) -> bool {
-        *self as u8 == *other as u8
-    }
-}
-
-impl Eq for ContextKind {
-    ghost laws = { Prim.search (comparing, rules) };
-}
-
 impl Key for ContextKind {
-    ghost use Rattle.account.specs.SameKeys.{same_key_decides};
-
-    ghost same = { same_key };
-
-    ghost told = { Prim.search rules };
-
-    ghost exact = { same_key_decides };
+    ghost exact = { Prim.search rules };
 }
 
 // What an entry holds: a text or a packed list of texts lies where it is borrowed from.

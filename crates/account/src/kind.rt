@@ -1,14 +1,11 @@
 // What went wrong.
 ghost use Rattle.std.specs.Prelude.{◌≡◌, [], Some};
-ghost use Rattle.account.specs.Kinds.{wording_of, same_kind};
+ghost use Rattle.account.specs.Kinds.{wording_of};
 ghost use Rattle.std.specs.Option.{option_map, unwrap_or};
-ghost use Rattle.std.specs.Cmp.Rules.{comparing};
-ghost use Rattle.std.proofs.Common.{rules};
-ghost use Rattle.std.specs.Cmp.{partial_equiv_from_equiv};
 
 use std::fmt;
 
-#[derive(Clone, Copy, Debug)]
+#[derive(Clone, Copy, Debug, PartialEq, Eq)]
 pub enum ErrorKind {
     InvalidValue,
     UnknownArgument,
@@ -64,25 +61,11 @@ impl ErrorKind {
     }
 }
 
-// The kind's wording, or nothing.
+// The kind's wording, or nothing. An impl here and one for `ContextKind`: no impl of another crate's trait may be for every type.
 impl fmt::Display for ErrorKind {
     ghost output = { λ k. Some (unwrap_or (wording_of k) []) };
 
     fn fmt<W: fmt::Write>(&self, f: &mut fmt::Formatter<W>) -> fmt::Result {
         self.as_str().unwrap_or("").fmt(f)
     }
-}
-
-impl PartialEq for ErrorKind {
-    ghost eq = { same_kind };
-
-    ghost laws = { partial_equiv_from_equiv (Prim.search (comparing, rules)) };
-
-    fn eq(&self, other: &ErrorKind) -> bool {
-        *self as u8 == *other as u8
-    }
-}
-
-impl Eq for ErrorKind {
-    ghost laws = { Prim.search (comparing, rules) };
 }

@@ -1,4 +1,5 @@
 pub mod Marks
+pub mod Rendered
 pub mod Roles
 pub mod SameRoles
 pub mod Styling

@@ -1,5 +1,5 @@
 -- What styles mean: a style for each role.
-use Rattle.std.specs.Prelude.{◌≡◌, true, false, Some, None}
+use Rattle.std.specs.Prelude.{◌≡◌, ◌≢◌, true, false, Some, None}
 use Rattle.builder.specs.Styling.{plain_style, same_role}
 use Rattle.builder.specs.declared.styling.Style.{Style}
 use Rattle.builder.specs.declared.styling.AnsiColor.TheVariants.{Red, Green, Yellow}
@@ -16,7 +16,7 @@ style_of s q = unwrap_or (lookup same_role (entries s.roles s.styles 4) q) plain
 -- s' has the style for the role, and each other style as s has it
 pub record Changed (s : Styles) (role : StyledRole) (style : Style) (s' : Styles) : Type 0 where
   pub here : style_of s' role ≡ style
-  pub others : (q : StyledRole) → same_role role q ≡ false → style_of s' q ≡ style_of s q
+  pub others : (q : StyledRole) → role ≢ q → style_of s' q ≡ style_of s q
 
 -- the standard colours: error bold red, literal bold, valid green, invalid yellow
 abbrev pub standard : StyledRole → Style

@@ -1,4 +1,4 @@
--- Of `same_role`: it decides whether two roles are one. A proof, which the styles' map asks for.
+-- Of `same_role`: it decides whether two roles are one. A proof, which nobody has to read.
 use Rattle.std.proofs.Common.{◌≡◌, rules}
 use Rattle.std.specs.Bool.{Decides}
 use Rattle.builder.specs.Styling.{same_role}

@@ -11,21 +11,10 @@ plain_style = record { bold = false; underline = false; color = None }
 -- whether two roles are the same
 abbrev pub same_role : StyledRole → StyledRole → Bool
 same_role Error Error = true
-same_role Error Valid = false
-same_role Error Invalid = false
-same_role Error Literal = false
-same_role Valid Error = false
 same_role Valid Valid = true
-same_role Valid Invalid = false
-same_role Valid Literal = false
-same_role Invalid Error = false
-same_role Invalid Valid = false
 same_role Invalid Invalid = true
-same_role Invalid Literal = false
-same_role Literal Error = false
-same_role Literal Valid = false
-same_role Literal Invalid = false
 same_role Literal Literal = true
+same_role _ _ = false
 
 -- the four of them
 abbrev pub all_roles : List StyledRole

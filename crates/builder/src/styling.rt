@@ -1,13 +1,10 @@
 // Terminal styles: how each of the four styled roles is shown.
-ghost use Rattle.std.specs.Prelude.{◌≡◌, ◌+◌, ◌≤◌, true, ◌++◌, length, take, Some};
+ghost use Rattle.std.specs.Prelude.{◌≡◌, ◌≢◌, ◌+◌, ◌≤◌, true, ◌++◌, length, Some};
 ghost use Rattle.builder.specs.Marks.{is_plain, marks, color_mark};
-ghost use Rattle.builder.specs.Styling.{plain_style, same_role, all_roles};
-ghost use Rattle.std.specs.Cmp.Rules.{comparing};
+ghost use Rattle.builder.specs.Styling.{plain_style, all_roles};
 ghost use Rattle.std.proofs.Common.{rules};
 
-use flat_map::Key;
-
-mod calls;
+use flat_map::{FlatMap, Key, get_in};
 
 // The eight colours of a terminal, in the order of their numbers.
 #[derive(Clone, Copy, Debug)]
@@ -31,6 +28,7 @@ pub struct Style {
 }
 
 // The marks that a text in a style begins with: the first `len` of `bytes`.
+// An array with its length: marks can be copied, there is no heap, and this crate rests on no list of a fixed capacity.
 #[derive(Clone, Copy, Debug)]
 pub struct Marks {
     bytes: [u8; 13],
@@ -39,17 +37,18 @@ pub struct Marks {
 }
 
 impl Marks {
+    ghost use Rattle.builder.specs.Rendered.{marks_bytes};
+
     pub fn as_bytes(&self) -> &[u8]
-        ensures { result.now ≡ take self.now.len self.now.bytes }
+        ensures { result.now ≡ marks_bytes self.now }
     {
-        let len = self.len;
-        &self.bytes[0..len]
+        &self.bytes[..self.len]
     }
 
     // These marks, and then more.
     fn and(self, more: &[u8]) -> Marks
         requires { self.len + length more.now ≤ 13 }
-        ensures bytes { take result.len result.bytes ≡ take self.len self.bytes ++ more.now }
+        ensures bytes { marks_bytes result ≡ marks_bytes self ++ more.now }
         ensures len { result.len ≡ self.len + length more.now }
     {
         let mut bytes = self.bytes;
@@ -68,6 +67,8 @@ fn color_mark(color: AnsiColor) -> [u8; 5]
 }
 
 impl Style {
+    ghost use Rattle.builder.specs.Rendered.{marks_bytes};
+
     // The plain style.
     pub fn new() -> Style
         ensures { result ≡ plain_style }
@@ -79,23 +80,20 @@ impl Style {
         }
     }
 
+    // The same, and bold.
     pub fn bold(self) -> Style
         ensures { result ≡ record { bold = true; underline = self.underline; color = self.color } }
     {
-        Style {
-            bold: true,
-            underline: self.underline,
-            color: self.color,
-        }
+        Style { bold: true, ..self }
     }
 
+    // The same, and underlined.
     pub fn underline(self) -> Style
         ensures { result ≡ record { bold = self.bold; underline = true; color = self.color } }
     {
         Style {
-            bold: self.bold,
             underline: true,
-            color: self.color,
+            ..self
         }
     }
 
@@ -103,11 +101,7 @@ impl Style {
     pub fn fg_color(self, color: Option<AnsiColor>) -> Style
         ensures { result ≡ record { bold = self.bold; underline = self.underline; color = color } }
     {
-        Style {
-            bold: self.bold,
-            underline: self.underline,
-            color,
-        }
+        Style { color, ..self }
     }
 
     // Whether the style has no mark.
@@ -119,7 +113,7 @@ impl Style {
 
     // The marks of the style.
     pub fn render(&self) -> Marks
-        ensures { take result.len result.bytes ≡ marks self.now }
+        ensures { marks_bytes result ≡ marks self.now }
     {
         let mut marks = Marks {
             bytes: [0; 13],
@@ -139,7 +133,7 @@ impl Style {
 }
 
 // The roles whose texts have a style.
-#[derive(Clone, Copy, Debug)]
+#[derive(Clone, Copy, Debug, PartialEq, Eq)]
 pub enum StyledRole {
     Error,
     Valid,
@@ -147,30 +141,115 @@ pub enum StyledRole {
     Literal,
 }
 
-impl PartialEq for StyledRole {
-    ghost eq = { same_role };
-
-    ghost laws = { Prim.search (comparing, rules) };
-
-    fn eq(&self, other: &StyledRole) -> bool {
-        *self as u8 == *other as u8
-    }
-}
-
 impl Key for StyledRole {
-    ghost use Rattle.builder.specs.SameRoles.{same_role_decides};
-
-    ghost same = { same_role };
-
-    ghost told = { Prim.search rules };
-
-    ghost exact = { same_role_decides };
+    ghost exact = { Prim.search rules };
 }
 
-// The styles by role: a map over its own two arrays, in which every role has its entry.
+// The styles by role: a map over its own two arrays, in which every role has its entry. Two, as the map takes keys and values.
 #[derive(Clone, Copy, Debug)]
 pub struct Styles {
     roles: [StyledRole; 4],
     styles: [Style; 4],
     ghost whole: { roles ≡ all_roles },
+}
+
+impl Styles {
+    ghost use Rattle.builder.specs.Roles.{style_of, standard, Changed};
+
+    // Every role is plain.
+    pub fn plain() -> Styles
+        ensures { (q : StyledRole) → style_of result q ≡ plain_style }
+    {
+        Styles {
+            roles: [
+                StyledRole::Error,
+                StyledRole::Valid,
+                StyledRole::Invalid,
+                StyledRole::Literal,
+            ],
+            styles: [Style::new(); 4],
+        }
+    }
+
+    // The style of a role.
+    pub fn get(&self, role: StyledRole) -> Style
+        ensures { result ≡ style_of self.now role }
+    {
+        get_in(&self.roles, &self.styles, 4, role)
+            .copied()
+            .unwrap_or(Style::new())
+    }
+
+    // The same styles but for one role.
+    fn with(self, role: StyledRole, style: Style) -> Styles
+        ensures { Changed self role style result }
+    {
+        let Styles {
+            mut roles,
+            mut styles,
+        } = self;
+        let cleared = (StyledRole::Error, Style::new());
+        let _ = FlatMap::holding(&mut roles, &mut styles, 4, cleared).insert(role, style);
+        Styles { roles, styles }
+    }
+
+    // A call that changes and one that tells, for each role: the Rust's names.
+    pub fn error(self, style: Style) -> Styles
+        ensures { Changed self StyledRole.Error style result }
+    {
+        self.with(StyledRole::Error, style)
+    }
+
+    pub fn valid(self, style: Style) -> Styles
+        ensures { Changed self StyledRole.Valid style result }
+    {
+        self.with(StyledRole::Valid, style)
+    }
+
+    pub fn invalid(self, style: Style) -> Styles
+        ensures { Changed self StyledRole.Invalid style result }
+    {
+        self.with(StyledRole::Invalid, style)
+    }
+
+    pub fn literal(self, style: Style) -> Styles
+        ensures { Changed self StyledRole.Literal style result }
+    {
+        self.with(StyledRole::Literal, style)
+    }
+
+    pub fn get_error(&self) -> Style
+        ensures { result ≡ style_of self.now StyledRole.Error }
+    {
+        self.get(StyledRole::Error)
+    }
+
+    pub fn get_valid(&self) -> Style
+        ensures { result ≡ style_of self.now StyledRole.Valid }
+    {
+        self.get(StyledRole::Valid)
+    }
+
+    pub fn get_invalid(&self) -> Style
+        ensures { result ≡ style_of self.now StyledRole.Invalid }
+    {
+        self.get(StyledRole::Invalid)
+    }
+
+    pub fn get_literal(&self) -> Style
+        ensures { result ≡ style_of self.now StyledRole.Literal }
+    {
+        self.get(StyledRole::Literal)
+    }
+
+    // The standard colours: errors bold red, valid words green, invalid ones yellow, literals bold.
+    pub fn styled() -> Styles
+        ensures { (q : StyledRole) → style_of result q ≡ standard q }
+    {
+        Styles::plain()
+            .error(Style::new().bold().fg_color(Some(AnsiColor::Red)))
+            .valid(Style::new().fg_color(Some(AnsiColor::Green)))
+            .invalid(Style::new().fg_color(Some(AnsiColor::Yellow)))
+            .literal(Style::new().bold())
+    }
 }

@@ -1,77 +1,77 @@
 -- Of entries in two lists side by side, and of what is looked up, put and taken out there.
-use Rattle.std.proofs.Common.{◌≡◌, ℕ, zero, suc, ◌+◌, ◌-◌, ◌<◌, ◌≤◌, min, Bool, true, false, cond, ltb, List, [], ◌∷◌, ◌++◌, map, length, get_or, take, drop, set, is_some, Some, None, Option, sym, refl, ap, ◌∙◌, subst, inl, inr, add-one, arith, length-append, length-take, Bor, rules}
-use Rattle.std.specs.List.{zip, slice_get, remove}
-use Rattle.std.specs.Option.{option_map}
-use Rattle.std.specs.Slice.{IsGetResult}
-use Rattle.std.proofs.lemmas.List.{places, drop_at, length-map, length-set, length_push, length-take-le, get_or-take, take_rest, drop-set-lt}
-use Rattle.std.proofs.lemmas.Bool.{cases_lt, lt-ltb, le-ltb}
-use Rattle.std.proofs.lemmas.Option.{slice_get_read, slice_get_past, slice_get-get_or}
-use Rattle.std.proofs.lemmas.Slice.Zip.{length-zip}
-use Rattle.flat_map.specs.Assoc.{first, closed, entries, lookup, put, without}
+use Rattle.std.proofs.Common.{◌≡◌, ℕ, zero, suc, ◌+◌, ◌-◌, ◌<◌, ◌≤◌, min, Bool, true, false, not, cond, List, [], ◌∷◌, ◌++◌, map, length, get_or, take, drop, set, Some, None, Option, sym, refl, ap, ◌∙◌, subst, inl, inr, add-one, arith, length-append, length-take, Bor, rules}
+use Rattle.std.specs.List.{zip, slice_get, remove, find, position, position_or_len}
+use Rattle.std.specs.Option.{option_map, MatchOption, IfSome, IsSomeAnd}
+use Rattle.std.proofs.lemmas.List.{places, drop_at, length-map, length-set, length_push, length-take-le, get_or-take, drop-set-lt}
+use Rattle.std.proofs.lemmas.Bool.{cases_lt, lt-ltb, le-ltb, cond-true, cond-false}
+use Rattle.std.proofs.lemmas.Option.{slice_get_past, slice_get-get_or}
+use Rattle.std.proofs.lemmas.Slice.Zip.{length-zip, firsts-zip, seconds-zip}
+use Rattle.std.specs.Iterator.{YieldsFirstBy, MakesProgress, item_count}
+use Rattle.flat_map.specs.declared.Iter.{Iter}
+use Rattle.flat_map.specs.Maps.{rest_of}
+use Rattle.flat_map.specs.Assoc.{closed, entries, lookup, put, without}
 use Rattle.flat_map.proofs.Closes.{take_min, closed_within}
 
--- what `get` of a slice finds
-pub item_nth : {X : Type 0} (xs : List X) (i : ℕ) (r : Option (Bor X)) → IsGetResult xs i i r → option_map (λ x. x.now) r ≡ slice_get xs i
-item_nth xs i None h = sym (slice_get_past xs i h.3)
-item_nth xs i (Some x) h = sym (slice_get_read xs (length xs) i x.now refl h.3.0 h.1)
+-- the place of the first element that passes the test, or their number where none does
+abbrev first : {X : Type 0} → (X → Bool) → List X → ℕ
+first p [] = 0
+first p (x ∷ xs) = cond (p x) 0 (suc (first p xs))
 
-nth_some : {X : Type 0} (xs : List X) (i : ℕ) → i < length xs → is_some (slice_get xs i) ≡ true
-nth_some [] i h = absurd (omega arith)
-nth_some (x ∷ xs) zero h = refl
-nth_some (x ∷ xs) (suc i) h = nth_some xs i (omega arith)
+first_is : {X : Type 0} (p : X → Bool) (xs : List X) → position_or_len p xs ≡ first p xs
+first_is p [] = refl
+first_is p (x ∷ xs) =
+    elim (p x) as (λ (b : Bool). cond (not b) (1 + position_or_len p xs) 0 ≡ cond b 0 (suc (first p xs))) [ true ↦ refl | false ↦ omega (arith, first_is p xs) ]
 
 module _ {K V : Type 0} where
   pub length_entries : (ks : List K) (vs : List V) (n : ℕ) → length (entries ks vs n) ≡ min (min n (length ks)) (length vs)
   length_entries ks vs n = omega (arith, length-take n (zip ks vs), length-zip ks vs)
 
-  -- the entries are as many of the keys, and of the values
-  pub keys_are : (ks : List K) (vs : List V) (n m : ℕ) → m ≡ length (entries ks vs n) → take m ks ≡ map (λ p. p.0) (entries ks vs n)
-  keys_are ks vs n m e = ap (λ (k : ℕ). take k ks) e ∙ by ks vs n
+  -- the first keys with their values
+  pub entries_front : (ks : List K) (vs : List V) (n m : ℕ) → m ≡ min n (length ks) → zip (take m ks) vs ≡ entries ks vs n
+  entries_front ks vs n m e = ap (λ (l : List K). zip l vs) (ap (λ (k : ℕ). take k ks) e ∙ sym (take_min n ks)) ∙ by ks vs n
     where
-      by : (ks : List K) (vs : List V) (n : ℕ) → take (length (entries ks vs n)) ks ≡ map (λ p. p.0) (entries ks vs n)
+      by : (ks : List K) (vs : List V) (n : ℕ) → zip (take n ks) vs ≡ take n (zip ks vs)
       by [] vs zero = refl
       by [] vs (suc n) = refl
-      by (x ∷ ks) [] zero = refl
+      by (x ∷ ks) vs zero = refl
       by (x ∷ ks) [] (suc n) = refl
-      by (x ∷ ks) (v ∷ vs) zero = refl
-      by (x ∷ ks) (v ∷ vs) (suc n) = ap (λ (l : List K). x ∷ l) (by ks vs n)
-
-  pub values_are : (ks : List K) (vs : List V) (n m : ℕ) → m ≡ length (entries ks vs n) → take m vs ≡ map (λ p. p.1) (entries ks vs n)
-  values_are ks vs n m e = ap (λ (k : ℕ). take k vs) e ∙ by ks vs n
-    where
-      by : (ks : List K) (vs : List V) (n : ℕ) → take (length (entries ks vs n)) vs ≡ map (λ p. p.1) (entries ks vs n)
-      by [] vs zero = refl
-      by [] vs (suc n) = refl
-      by (x ∷ ks) [] zero = refl
-      by (x ∷ ks) [] (suc n) = refl
-      by (x ∷ ks) (v ∷ vs) zero = refl
-      by (x ∷ ks) (v ∷ vs) (suc n) = ap (λ (l : List V). v ∷ l) (by ks vs n)
-
-  pub zipped_sides : (ks : List K) (vs : List V) (ps : List (K × V)) → ks ≡ map (λ p. p.0) ps → vs ≡ map (λ p. p.1) ps → zip ks vs ≡ ps
-  zipped_sides ks vs ps e f = ap (λ (l : List K). zip l vs) e ∙ ap (λ (l : List V). zip (map (λ p. p.0) ps) l) f ∙ by ps
-    where
-      by : (ps : List (K × V)) → zip (map (λ p. p.0) ps) (map (λ p. p.1) ps) ≡ ps
-      by [] = refl
-      by (p ∷ ps) = ap (λ (l : List (K × V)). p ∷ l) (by ps)
-
-  -- pair by pair
-  pub zipped_none : (ks : List K) (vs : List V) → length ks < 1 → zip ks vs ≡ []
-  zipped_none [] vs h = refl
-  zipped_none (x ∷ ks) vs h = absurd (omega arith)
-
-  pub zipped_next : (ks : List K) (vs : List V) (x : K) (v : V) → 1 ≤ length ks → 1 ≤ length vs → x ≡ get_or ks 0 x → v ≡ get_or vs 0 v
-      → zip ks vs ≡ (x, v) ∷ zip (take (length ks - 1) (drop 1 ks)) (take (length vs - 1) (drop 1 vs))
-  zipped_next [] vs x v p q e f = absurd (omega arith)
-  zipped_next (y ∷ ks) [] x v p q e f = absurd (omega arith)
-  zipped_next (y ∷ ks) (w ∷ vs) x v p q e f =
-      ap (λ (z : K). (z, w) ∷ zip ks vs) (sym e) ∙ ap (λ (z : V). (x, z) ∷ zip ks vs) (sym f)
-      ∙ ap (λ (l : List K). (x, v) ∷ zip l vs) (sym (take_rest (y ∷ ks) 1)) ∙ ap (λ (l : List V). (x, v) ∷ zip (take (length (y ∷ ks) - 1) ks) l) (sym (take_rest (w ∷ vs) 1))
+      by (x ∷ ks) (v ∷ vs) (suc n) = ap (λ (l : List (K × V)). (x, v) ∷ l) (by ks vs n)
 
   -- the number of entries says as much as a larger number
   pub entries_counted : (ks : List K) (vs : List V) (n m : ℕ) → m ≡ length (entries ks vs n) → entries ks vs m ≡ entries ks vs n
   entries_counted ks vs n m e =
       let q : m ≡ min n (length (zip ks vs)) = e ∙ length-take n (zip ks vs) in
       ap (λ (k : ℕ). take k (zip ks vs)) q ∙ sym (take_min n (zip ks vs))
+
+  -- the entries are as many of the keys, each with one of as many of the values
+  sides : (ks : List K) (vs : List V) (n m : ℕ) → m ≡ length (entries ks vs n) → zip (take m ks) (take m vs) ≡ entries ks vs n
+  sides ks vs n m e = by ks vs m ∙ entries_counted ks vs n m e
+    where
+      by : (ks : List K) (vs : List V) (n : ℕ) → zip (take n ks) (take n vs) ≡ take n (zip ks vs)
+      by [] vs zero = refl
+      by [] vs (suc n) = refl
+      by (x ∷ ks) vs zero = refl
+      by (x ∷ ks) [] (suc n) = refl
+      by (x ∷ ks) (v ∷ vs) (suc n) = ap (λ (l : List (K × V)). (x, v) ∷ l) (by ks vs n)
+
+  as_many : (ks : List K) (vs : List V) (n m : ℕ) → m ≡ length (entries ks vs n) → length (take m vs) ≡ length (take m ks)
+  as_many ks vs n m e = omega (arith, length_entries ks vs n, length-take m ks, length-take m vs)
+
+  pub keys_are : (ks : List K) (vs : List V) (n m : ℕ) → m ≡ length (entries ks vs n) → take m ks ≡ map (λ p. p.0) (entries ks vs n)
+  keys_are ks vs n m e = sym (firsts-zip (take m ks) (take m vs) (as_many ks vs n m e)) ∙ ap (map (λ p. p.0)) (sides ks vs n m e)
+
+  pub values_are : (ks : List K) (vs : List V) (n m : ℕ) → m ≡ length (entries ks vs n) → take m vs ≡ map (λ p. p.1) (entries ks vs n)
+  values_are ks vs n m e = sym (seconds-zip (take m ks) (take m vs) (as_many ks vs n m e)) ∙ ap (map (λ p. p.1)) (sides ks vs n m e)
+
+  -- a call of `next` gives the first of the entries that are left
+  pub yields_first : (s t : Iter K V) (r : Option (Bor K × Bor V)) → MatchOption r ((rest_of s ≡ []) × (t ≡ s)) (λ p. rest_of s ≡ (p.0.now, p.1.now) ∷ rest_of t)
+      → YieldsFirstBy (λ p. (p.0.now, p.1.now)) rest_of s r t
+  yields_first s t None h = (h.0, ap rest_of h.1 ∙ h.0)
+  yields_first s t (Some p) h = h
+
+  pub goes_on : (s t : Iter K V) (r : Option (Bor K × Bor V)) → YieldsFirstBy (λ p. (p.0.now, p.1.now)) rest_of s r t → MakesProgress (λ _. Unit {0}) (item_count rest_of) s r t
+  goes_on s t None h = record { on = λ _. tt; keeps = tt; rests = λ _. tt }
+  goes_on s t (Some p) h = record { on = λ _. (tt, tt, omega (arith, ap length h)); keeps = tt; rests = λ _. tt }
 
   -- one entry more, behind the n that there are
   pub record Pushed (ks ks' : List K) (vs vs' : List V) (count n : ℕ) (k : K) (v : V) : Type 0 where
@@ -104,35 +104,50 @@ module _ {K V : Type 0} where
     abbrev pub at : List (K × V) → ℕ
     at ps = first (λ x. same x k) (map (λ p. p.0) ps)
 
-    -- the value there is the key's, where i is that place in the keys
-    pub lookup_at : (ks : List K) (vs : List V) (ps : List (K × V)) (i : ℕ) → ks ≡ map (λ p. p.0) ps → vs ≡ map (λ p. p.1) ps → i ≡ first (λ x. same x k) ks
-        → slice_get vs i ≡ lookup same ps k
-    lookup_at ks vs ps i e f t = ap (λ (l : List V). slice_get l i) f ∙ ap (λ (j : ℕ). slice_get (map (λ p. p.1) ps) j) (t ∙ ap (first (λ x. same x k)) e) ∙ by ps
-      where
-        by : (ps : List (K × V)) → slice_get (map (λ p. p.1) ps) (at ps) ≡ lookup same ps k
-        by [] = refl
-        by (p ∷ ps) =
-            elim (same p.0 k) as (λ (b : Bool). slice_get (p.1 ∷ map (λ p. p.1) ps) (cond b 0 (suc (at ps))) ≡ cond b (Some p.1) (lookup same ps k)) [ true ↦ refl | false ↦ by ps ]
+    -- what the place says that a search for the key gave
+    pub placed : (ps : List (K × V)) (r : Option ℕ) → r ≡ position (λ x. same x k) (map (λ p. p.0) ps) → MatchOption r (length ps ≤ at ps) (λ i. (i ≡ at ps) × (i < length ps))
+    placed ps r e =
+        let l : length (map (λ p. p.0) ps) ≡ length ps = length-map ps (λ p. p.0) in
+        let f : position_or_len (λ x. same x k) (map (λ p. p.0) ps) ≡ at ps = first_is (λ x. same x k) (map (λ p. p.0) ps) in
+        let At : Option ℕ → Type 0 = λ o. MatchOption o (length ps ≤ at ps) (λ i. (i ≡ at ps) × (i < length ps)) in
+        elim (cases_lt (position_or_len (λ x. same x k) (map (λ p. p.0) ps)) (length (map (λ p. p.0) ps))) [
+          | inl h ↦ subst At (sym (e ∙ cond-true _ _ None (lt-ltb _ _ h))) (f, omega arith)
+          | inr h ↦ subst At (sym (e ∙ cond-false _ _ None (le-ltb _ _ h))) (omega arith)
+        ]
+
+    pub placed_within : (ps : List (K × V)) (r : Option ℕ) (n : ℕ) → r ≡ position (λ x. same x k) (map (λ p. p.0) ps) → length ps ≤ n → IfSome r (λ i. i < n)
+    placed_within ps None n e h = tt
+    placed_within ps (Some i) n e h = omega (arith, (placed ps (Some i) e).1)
+
+    -- the value there is the key's
+    pub lookup_at : (ps : List (K × V)) → slice_get (map (λ p. p.1) ps) (at ps) ≡ lookup same ps k
+    lookup_at [] = refl
+    lookup_at (p ∷ ps) =
+        elim (same p.0 k) as (λ (b : Bool). slice_get (p.1 ∷ map (λ p. p.1) ps) (cond b 0 (suc (at ps))) ≡ cond b (Some p.1) (lookup same ps k)) [ true ↦ refl | false ↦ lookup_at ps ]
+
+    -- and so is that of the first entry with the key
+    pub lookup_find : (ps : List (K × V)) → option_map (λ p. p.1) (find (λ p. same p.0 k) ps) ≡ lookup same ps k
+    lookup_find [] = refl
+    lookup_find (p ∷ ps) =
+        elim (same p.0 k) as (λ (b : Bool). option_map (λ p. p.1) (cond b (Some p) (find (λ p. same p.0 k) ps)) ≡ cond b (Some p.1) (lookup same ps k)) [ true ↦ refl | false ↦ lookup_find ps ]
+
+    -- its value, where q is what was taken of the entry r
+    pub lookup_found : (ps : List (K × V)) (r : Option (Bor K × Bor V)) (q : Option (Bor V)) → option_map (λ p. (p.0.now, p.1.now)) r ≡ find (λ p. same p.0 k) ps
+        → MatchOption r (q ≡ None) (λ p. IsSomeAnd q (λ v. v ≡ p.1)) → option_map (λ v. v.now) q ≡ lookup same ps k
+    lookup_found ps None q e h = ap (option_map (λ v. v.now)) h ∙ ap (option_map (λ p. p.1)) e ∙ lookup_find ps
+    lookup_found ps (Some p) None e h = absurd h
+    lookup_found ps (Some p) (Some v) e h = ap (λ (w : Bor V). Some w.now) h ∙ ap (option_map (λ p. p.1)) e ∙ lookup_find ps
 
     -- so it is looked up in vain exactly if that place is past the last entry
     pub lookup_past : (ps : List (K × V)) → length ps ≤ at ps → lookup same ps k ≡ None
-    lookup_past ps h = sym (lookup_at _ _ ps (at ps) refl refl refl) ∙ slice_get_past (map (λ p. p.1) ps) (at ps) (omega (arith, length-map ps (λ p. p.1)))
-
-    pub lookup_test : (ks : List K) (ps : List (K × V)) (i n : ℕ) → ks ≡ map (λ p. p.0) ps → i ≡ first (λ x. same x k) ks → n ≡ length ps → ltb i n ≡ is_some (lookup same ps k)
-    lookup_test ks ps i n e t l =
-        let q : i ≡ at ps = t ∙ ap (first (λ x. same x k)) e in
-        elim (cases_lt i n) [
-          | inl h ↦ (let b : at ps < length (map (λ p. p.1) ps) = simp length-map (omega arith) in
-              lt-ltb i n h ∙ sym (ap is_some (sym (lookup_at _ _ ps (at ps) refl refl refl)) ∙ nth_some (map (λ p. p.1) ps) (at ps) b))
-          | inr h ↦ (le-ltb i n h ∙ sym (ap is_some (lookup_past ps (omega arith))))
-        ]
+    lookup_past ps h = sym (lookup_at ps) ∙ slice_get_past (map (λ p. p.1) ps) (at ps) (omega (arith, length-map ps (λ p. p.1)))
 
     pub lookup_held : (ks : List K) (vs : List V) (n i : ℕ) (d : V) → i ≡ at (entries ks vs n) → i < length (entries ks vs n) → Some (get_or vs i d) ≡ lookup same (entries ks vs n) k
     lookup_held ks vs n i d e h =
         let m : ℕ = length (entries ks vs n) in
         let l : m ≡ length (take m vs) = sym (length-take-le m vs (omega (arith, length_entries ks vs n))) in
         sym (slice_get-get_or (take m vs) i d (omega arith) ∙ ap (λ (x : V). Some x) (get_or-take m vs i d h))
-        ∙ lookup_at _ (take m vs) (entries ks vs n) i refl (values_are ks vs n m refl) e
+        ∙ ap (λ (l : List V). slice_get l i) (values_are ks vs n m refl) ∙ ap (slice_get (map (λ p. p.1) (entries ks vs n))) e ∙ lookup_at (entries ks vs n)
 
     -- the value is replaced there
     pub put_held : (ks : List K) (vs : List V) (n i : ℕ) (v : V) → i ≡ at (entries ks vs n) → i < length (entries ks vs n)
@@ -185,18 +200,18 @@ pub record Closed {K V : Type 0} (ks ks' : List K) (vs vs' : List V) (count n i 
 
 module _ {K V : Type 0} where
   -- what lies behind the first n does not matter to them
-  entries_front : (ks a : List K) (vs b : List V) (n : ℕ) → n ≤ length ks → n ≤ length vs → entries (take n ks ++ a) (take n vs ++ b) n ≡ entries ks vs n
-  entries_front ks a vs b zero p q = refl
-  entries_front [] a vs b (suc n) p q = absurd (omega arith)
-  entries_front (k ∷ ks) a [] b (suc n) p q = absurd (omega arith)
-  entries_front (k ∷ ks) a (v ∷ vs) b (suc n) p q = ap (λ (l : List (K × V)). (k, v) ∷ l) (entries_front ks a vs b n (omega arith) (omega arith))
+  entries_before : (ks a : List K) (vs b : List V) (n : ℕ) → n ≤ length ks → n ≤ length vs → entries (take n ks ++ a) (take n vs ++ b) n ≡ entries ks vs n
+  entries_before ks a vs b zero p q = refl
+  entries_before [] a vs b (suc n) p q = absurd (omega arith)
+  entries_before (k ∷ ks) a [] b (suc n) p q = absurd (omega arith)
+  entries_before (k ∷ ks) a (v ∷ vs) b (suc n) p q = ap (λ (l : List (K × V)). (k, v) ∷ l) (entries_before ks a vs b n (omega arith) (omega arith))
 
   -- taken out of both sides is taken out of the pairs
   removed_sides : (ks a : List K) (vs b : List V) (m i : ℕ) → m < length ks → m < length vs → i ≤ m
       → entries (remove (take (suc m) ks) i ++ a) (remove (take (suc m) vs) i ++ b) m ≡ remove (entries ks vs (suc m)) i
   removed_sides [] a vs b m i p q h = absurd (omega arith)
   removed_sides (k ∷ ks) a [] b m i p q h = absurd (omega arith)
-  removed_sides (k ∷ ks) a (v ∷ vs) b m zero p q h = entries_front ks a vs b m (omega arith) (omega arith)
+  removed_sides (k ∷ ks) a (v ∷ vs) b m zero p q h = entries_before ks a vs b m (omega arith) (omega arith)
   removed_sides (k ∷ ks) a (v ∷ vs) b zero (suc i) p q h = absurd (omega arith)
   removed_sides (k ∷ ks) a (v ∷ vs) b (suc m) (suc i) p q h = ap (λ (l : List (K × V)). (k, v) ∷ l) (removed_sides ks a vs b m i (omega arith) (omega arith) (omega arith))
 

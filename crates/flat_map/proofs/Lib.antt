@@ -1,4 +1,3 @@
 pub mod Closes
 pub mod Entries
-pub mod Finds
 pub mod Puts

@@ -1,11 +1,6 @@
 -- Association lists: entries of a key and a value, in order.
-use Rattle.std.specs.Prelude.{ℕ, suc, Bool, cond, List, [], ◌∷◌, ◌++◌, length, take, drop, Some, None, Option, nat_lt}
+use Rattle.std.specs.Prelude.{ℕ, Bool, cond, List, [], ◌∷◌, ◌++◌, length, take, drop, Some, None, Option, nat_lt}
 use Rattle.std.specs.List.{zip, remove}
-
--- the place of the first element that passes the test, or their number where none does
-abbrev pub first : {X : Type 0} → (X → Bool) → List X → ℕ
-first p [] = 0
-first p (x ∷ xs) = cond (p x) 0 (suc (first p xs))
 
 -- the element at i is taken out of the first n, those behind it move up, and e is in the place that is set free
 abbrev pub closed : {X : Type 0} → List X → ℕ → ℕ → X → List X

@@ -1,6 +1,6 @@
 -- Of a packed list that is made value by value.
-use Rattle.std.proofs.Common.{◌≡◌, ℕ, ◌+◌, ◌<◌, ◌≤◌, List, [], ◌++◌, map, length, get_or, take, sym, ap, ◌∙◌}
-use Rattle.std.proofs.lemmas.List.{get_or-map, map_more, flat_map_more, take_all}
+use Rattle.std.proofs.Common.{◌≡◌, ℕ, ◌+◌, ◌<◌, List, [], ◌++◌, map, length, get_or, take, sym, ap, ◌∙◌}
+use Rattle.std.proofs.lemmas.List.{get_or-map, map_more, flat_map_more}
 use Rattle.util.specs.Packed.{pack_item, pack}
 
 module _ {X : Type 0} (f : X → List ℕ) (xs : List X) (i : ℕ) where
@@ -13,6 +13,3 @@ module _ {X : Type 0} (f : X → List ℕ) (xs : List X) (i : ℕ) where
   -- its bytes are what stands at i in all of them
   pub value_at : (x : X) (t : List ℕ) → i < length xs → x ≡ get_or xs i x → t ≡ f x → t ≡ get_or (map f xs) i []
   value_at x t h e q = q ∙ ap f e ∙ sym (get_or-map f xs i x [] h)
-
-  pub pack_all : (was : List ℕ) → length xs ≤ i → was ≡ pack (map f (take i xs)) → was ≡ pack (map f xs)
-  pack_all was h inv = inv ∙ ap (λ (l : List X). pack (map f l)) (take_all i xs h)

@@ -2,7 +2,7 @@
 ghost use Rattle.std.specs.Prelude.{◌≡◌, ◌++◌, IfOk, OnOk};
 ghost use Rattle.journal.specs.Listing.{others, listing as listed};
 ghost use Rattle.journal.specs.Numbered.{quoted_from};
-ghost use Rattle.util.specs.Packed.{items as items_of};
+ghost use Rattle.util.specs.Packed.{items as items_of, unread};
 ghost use Rattle.util.specs.Shown.{shown};
 
 use std::alloc::{AllocError, Global};
@@ -13,9 +13,7 @@ use util::packed::Items;
 pub(crate) fn push_shown(heap: Global, line: &mut Vec<u8>, value: &[u8]) -> Result<(), AllocError>
     ensures { OnOk result (line.new.items ≡ line.old.items ++ shown value.now) }
 {
-    let Some(len) = Escape(value).shown_len() else {
-        return Err(AllocError);
-    };
+    let len = Escape(value).shown_len().ok_or(AllocError)?;
     let mut form = vec![in heap; 0u8; len]?;
     let _ = Escape(value).write_shown(&mut form);
     line.extend_from_slice(&form)?;
@@ -23,11 +21,10 @@ pub(crate) fn push_shown(heap: Global, line: &mut Vec<u8>, value: &[u8]) -> Resu
 }
 
 // Adds the values that the reader has yet to give, each after a comma.
-fn push_others(heap: Global, line: &mut Vec<u8>, list: &[u8]) -> Result<(), AllocError>
-    ensures { OnOk result (line.new.items ≡ line.old.items ++ others (items_of list.now)) }
+fn push_others(heap: Global, line: &mut Vec<u8>, values: Items<'_>) -> Result<(), AllocError>
+    ensures { OnOk result (line.new.items ≡ line.old.items ++ others (unread values.entry)) }
 {
-    let mut items = Items::new(list);
-    while let Some(value) = items.next() {
+    for value in values {
         line.extend_from_slice(b", ")?;
         push_shown(heap, line, value)?;
     }
@@ -45,7 +42,7 @@ pub fn listing(heap: Global, list: &[u8]) -> Result<Vec<u8>, AllocError>
     };
     line.extend_from_slice(b"[possible values: ")?;
     push_shown(heap, &mut line, first)?;
-    push_others(heap, &mut line, items.rest())?;
+    push_others(heap, &mut line, items)?;
     line.extend_from_slice(b"]")?;
     Ok(line)
 }
@@ -55,13 +52,10 @@ pub fn quoted_values(heap: Global, list: &[u8]) -> Result<Vec<usize>, AllocError
     ensures { IfOk result (λ v. v.items ≡ quoted_from 1 (items_of list.now)) }
 {
     let mut quoted = Vec::new(heap);
-    let mut items = Items::new(list);
-    let mut number: usize = 1;
-    while let Some(value) = items.next() {
+    for (i, value) in Items::new(list).enumerate() {
         if Escape(value).needs_escaping() {
-            quoted.push(number)?;
+            quoted.push(i + 1)?;
         }
-        number += 1;
     }
     Ok(quoted)
 }

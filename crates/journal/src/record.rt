@@ -9,7 +9,7 @@ use sink::block_file::BlockFile;
 use sink::fault::SinkFault;
 use std::alloc::{AllocError, Global};
 
-// The blocks from `from` up to `to`.
+// The blocks from `from` up to `to`; no `Range`, which cannot be copied.
 #[derive(Clone, Copy, Debug, PartialEq, Eq)]
 pub struct Touched {
     pub from: usize,
@@ -27,7 +27,7 @@ pub fn append(file: &mut BlockFile, line: &[u8]) -> Result<Touched, SinkFault>
         return Ok(Touched { from, to: from });
     }
     file.put(line)?;
-    let to = (file.len() + 507) / 508;
+    let to = file.len().div_ceil(508);
     Ok(Touched { from, to })
 }
 
@@ -48,7 +48,7 @@ pub fn holds(heap: Global, file: &BlockFile, text: &[u8]) -> Result<bool, AllocE
     Ok(held.as_slice() == text)
 }
 
-// The count and the check of a block, zeros where the record has no such block.
+// The count and the check of a block. Zeros stand for no such block: the program states them as they are.
 pub fn seal_of(file: &BlockFile, block: usize) -> [u8; 4]
     ensures { result ≡ seal_at file.now.bytes.items block }
 {

@@ -8,10 +8,7 @@ use std::test::Fail;
 
 // One empty block.
 fn record(heap: Global) -> Result<BlockFile, Fail> {
-    match BlockFile::open(vec![in heap; 0; 512]?) {
-        Ok(file) => Ok(file),
-        Err(unopened) => Err(Fail::new(unopened.refusal.number())),
-    }
+    Ok(BlockFile::open(vec![in heap; 0; 512]?)?)
 }
 
 // A value that cannot be listed is named by its place, and to be no text comes first.

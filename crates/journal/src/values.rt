@@ -1,9 +1,10 @@
 // The values to be listed, as a packed list.
-ghost use Rattle.std.specs.Prelude.{◌≡◌, ◌++◌, map, string_bytes, MatchResult};
-ghost use Rattle.journal.specs.Listable.{Listable, WhyNot, Fault};
+ghost use Rattle.std.specs.Prelude.{◌≡◌, ◌++◌, map, string_bytes, Some, MatchResult};
+ghost use Rattle.journal.specs.Listable.{Listable, WhyNot, Fault, unlisted_text};
 ghost use Rattle.util.specs.Packed.{pack_item, pack as packed};
 
 use std::alloc::Global;
+use std::error::Error;
 use std::fmt;
 use util::packed::{PackError, push_item};
 use util::text::is_text;
@@ -19,6 +20,8 @@ pub enum Unlisted {
 }
 
 impl fmt::Display for Unlisted {
+    ghost output = { λ e. Some (unlisted_text e) };
+
     fn fmt<W: fmt::Write>(&self, f: &mut fmt::Formatter<W>) -> fmt::Result {
         match self {
             Unlisted::NoText(n) => write!(f, "value {n} is no text"),
@@ -27,6 +30,8 @@ impl fmt::Display for Unlisted {
         }
     }
 }
+
+impl Error for Unlisted {}
 
 // Adds a value, which goes by its number, to the list.
 fn push_value(list: &mut Vec<u8>, value: &[u8], number: usize) -> Result<(), Unlisted>
@@ -37,11 +42,10 @@ fn push_value(list: &mut Vec<u8>, value: &[u8], number: usize) -> Result<(), Unl
     if !is_text(value) {
         return Err(Unlisted::NoText(number));
     }
-    match push_item(list, value) {
-        Ok(()) => Ok(()),
-        Err(PackError::Long) => Err(Unlisted::Long(number)),
-        Err(PackError::NoMemory) => Err(Unlisted::NoMemory),
-    }
+    push_item(list, value).map_err(|error| match error {
+        PackError::Long => Unlisted::Long(number),
+        PackError::NoMemory => Unlisted::NoMemory,
+    })
 }
 
 // The packed list of the values.

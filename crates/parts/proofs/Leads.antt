@@ -3,9 +3,9 @@ use Rattle.std.proofs.Common.{◌≡◌, ℕ, ◌+◌, ◌<◌, List, [], ◌∷
 use Rattle.std.proofs.lemmas.Result.{err_from_is_err_and}
 use Rattle.std.proofs.lemmas.List.{at_drop_more}
 use Rattle.sheet.specs.Parts.{Part}
-use Rattle.sheet.specs.Roles.{part_of}
+use Rattle.sheet.specs.Roles.{told_part}
+use Rattle.sheet.specs.declared.part.Part.{Part as Piece}
 use Rattle.parts.specs.Takers.{Laws, Tells}
-use Rattle.parts.specs.declared.Part.{Part as Piece}
 use Rattle.parts.specs.Told.{parts_of}
 
 -- `all` is told from s on; at t there is `rest` to tell.
@@ -37,7 +37,7 @@ module _ {C : Type 0} {steps : C → List Part → C → Type 0} {fails : C → 
 
   -- one part of several
   pub at_part : {t : C} (xs : List Piece) (i : ℕ) (d : Piece) → i < length xs → Leads steps fails s all t (parts_of (drop i xs))
-      → Leads steps fails s all t ((part_of (get_or xs i d).role (get_or xs i d).text.now ∷ []) ++ parts_of (drop (i + 1) xs))
+      → Leads steps fails s all t ((told_part (get_or xs i d) ∷ []) ++ parts_of (drop (i + 1) xs))
   at_part xs i d h l = rw (at_drop_more parts_of xs i d h) at l
 
 -- what is to tell, in other words

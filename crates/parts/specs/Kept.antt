@@ -5,11 +5,11 @@ use Rattle.sheet.specs.Parts.{Part}
 use Rattle.sheet.specs.Sheets.{Joins, showing}
 use Rattle.sheet.specs.Symbols.{showing_alike}
 use Rattle.util.specs.Lengths.{exact}
-use Rattle.util.proofs.Quotes.{joined_append}
+use Rattle.std.proofs.lemmas.Grind.{flat_map-append}
 use Rattle.parts.specs.Takers.{Laws, Counts, Prints}
 
 length_showing : (f : Part → List ℕ) (l m : List Part) → length (showing f (l ++ m)) ≡ length (showing f l) + length (showing f m)
-length_showing f l m = ap (λ (r : List ℕ). length r) (joined_append f l m) ∙ length-append (showing f l) (showing f m)
+length_showing f l m = ap (λ (r : List ℕ). length r) (flat_map-append f l m) ∙ length-append (showing f l) (showing f m)
 
 pub counts_laws : {C X : Type 0} (shows : X → Part → List ℕ) → Joins shows → (sheet : C → X) (total : C → Option ℕ)
     → Laws {C = C} (λ s l t. Counts shows (sheet s) (total s) l (sheet t) (total t)) (λ _ _. ⊥)
@@ -37,7 +37,7 @@ prints_laws shows joins sheet lender held left = record {
   more = λ s t u l m p q. record {
     sheet = q.sheet ∙ p.sheet;
     lender = q.lender ∙ p.lender;
-    held = (let e = joined_append (shows (sheet s)) l m in let h = ap (λ x. showing (shows x) m) p.sheet in let a = append_assoc (held s) (showing (shows (sheet s)) l) (showing (shows (sheet s)) m) in let b = p.held in let d = q.held in cc);
+    held = (let e = flat_map-append (shows (sheet s)) l m in let h = ap (λ x. showing (shows x) m) p.sheet in let a = append_assoc (held s) (showing (shows (sheet s)) l) (showing (shows (sheet s)) m) in let b = p.held in let d = q.held in cc);
     left = (let e = length_showing (shows (sheet s)) l m in let h = ap (λ x. length (showing (shows x) m)) p.sheet in omega (arith, p.left, q.left));
   };
   ahead = λ s l m f. (let e = length_showing (shows (sheet s)) l m in omega arith);

@@ -1,8 +1,8 @@
 -- The code's parts as parts of a message.
 use Rattle.std.specs.Prelude.{List, map}
-use Rattle.parts.specs.declared.Part.{Part as Piece}
 use Rattle.sheet.specs.Parts.{Part}
-use Rattle.sheet.specs.Roles.{part_of}
+use Rattle.sheet.specs.Roles.{told_part}
+use Rattle.sheet.specs.declared.part.Part.{Part as Piece}
 
 abbrev pub parts_of : List Piece → List Part
-parts_of ps = map (λ p. part_of p.role p.text.now) ps
+parts_of ps = map told_part ps

@@ -5,7 +5,7 @@ ghost use Rattle.std.specs.Prelude.{◌≡◌, List, [], ◌∷◌, length};
 ghost use Rattle.parts.specs.Takers.{Laws, Tells};
 ghost use Rattle.parts.specs.Told.{parts_of};
 ghost use Rattle.sheet.specs.Parts.{Part as Told, tidy};
-ghost use Rattle.sheet.specs.Roles.{part_of};
+ghost use Rattle.sheet.specs.Roles.{told_part};
 ghost use Rattle.sheet.specs.Sheets.{showing};
 ghost use Rattle.sink.specs.Outcome.{Adds};
 ghost use Rattle.util.specs.Lengths.{exact};
@@ -13,17 +13,10 @@ ghost use Rattle.util.specs.Lengths.{exact};
 use printing::{Meter, print_all};
 use sheet::Sheet;
 use sheet::fault::SheetFault;
-use sheet::role::Role;
+use sheet::part::Part;
 use sink::{Sink, room};
 
 pub mod printing;
-
-// A part of a message: its role and its text.
-#[derive(Clone, Copy)]
-pub struct Part<'a> {
-    pub role: Role,
-    pub text: &'a [u8],
-}
 
 // What takes the parts of a message one by one.
 pub trait Taker {
@@ -36,16 +29,16 @@ pub trait Taker {
     // Parts are taken in their order, and neighbouring fixed parts are as good as one.
     ghost laws: { Laws steps fails };
 
-    fn part(&mut self, role: Role, text: &[u8]) -> Result<(), SheetFault>
-        ensures { Tells steps fails self.old (part_of role text.now ∷ []) self.new result };
+    fn part(&mut self, part: Part<'_>) -> Result<(), SheetFault>
+        ensures { Tells steps fails self.old (told_part part.entry ∷ []) self.new result };
 }
 
 // Tells some parts, in their order.
 pub fn say<T: Taker>(to: &mut T, parts: &[Part<'_>]) -> Result<(), SheetFault>
     ensures { Tells T.Taker.steps T.Taker.fails to.old (parts_of parts.now) to.new result }
 {
-    for p in parts {
-        to.part(p.role, p.text)?;
+    for part in parts {
+        to.part(*part)?;
     }
     Ok(())
 }

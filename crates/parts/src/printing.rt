@@ -9,17 +9,14 @@ ghost use Rattle.util.specs.Lengths.{exact};
 use crate::{Message, Taker};
 use sheet::Sheet;
 use sheet::fault::SheetFault;
-use sheet::role::Role;
+use sheet::part::Part;
 use sink::Sink;
 
 // Adds two lengths, if 64 bits hold the sum.
 fn add_exact(a: Option<u64>, b: Option<u64>) -> Option<u64>
     ensures { (m n : ℕ) → a ≡ exact m → b ≡ exact n → result ≡ exact (m + n) }
 {
-    let (Some(a), Some(b)) = (a, b) else {
-        return None;
-    };
-    a.checked_add(b)
+    a?.checked_add(b?)
 }
 
 // Adds up how long the parts are on a sheet; `None` is beyond 64 bits.
@@ -36,8 +33,8 @@ impl<S: Sheet> Taker for Meter<'_, S> {
 
     ghost laws = { counts_laws S.Sheet.shows S.Sheet.joins (λ s. s.sheet.now) (λ s. s.total) };
 
-    fn part(&mut self, role: Role, text: &[u8]) -> Result<(), SheetFault> {
-        self.total = add_exact(self.total, self.sheet.measure(role, text));
+    fn part(&mut self, part: Part<'_>) -> Result<(), SheetFault> {
+        self.total = add_exact(self.total, self.sheet.measure(part));
         Ok(())
     }
 }
@@ -56,8 +53,8 @@ impl<S: Sheet, K: Sink> Taker for Printer<'_, '_, S, K> {
 
     ghost laws = { prints_laws S.Sheet.shows S.Sheet.joins (λ s. s.sheet.now) (λ s. s.sink.ghost_name) (λ s. K.Sink.held s.sink.now) (λ s. K.Sink.left s.sink.now) };
 
-    fn part(&mut self, role: Role, text: &[u8]) -> Result<(), SheetFault> {
-        self.sheet.print(role, text, self.sink)
+    fn part(&mut self, part: Part<'_>) -> Result<(), SheetFault> {
+        self.sheet.print(part, self.sink)
     }
 }
 
@@ -71,6 +68,5 @@ pub(crate) fn print_all<M: Message, S: Sheet, K: Sink>(
     ensures { MatchResult result (λ _. Took K.Sink.held K.Sink.left sink.old (showing (S.Sheet.shows sheet.now) (M.Message.parts message.now)) sink.new) (λ _. ⊥) }
 {
     let mut printer = Printer { sheet, sink };
-    message.tell(&mut printer)?;
-    Ok(())
+    message.tell(&mut printer)
 }

@@ -4,7 +4,7 @@ use std::fs;
 use std::io::Write;
 
 // The bytes of the file, or four empty blocks where there is none.
-pub(crate) fn read_record(rt: &HostRuntime, path: &str) -> Result<Vec<u8>, Failure> {
+pub(crate) fn read_record<'a>(rt: &HostRuntime, path: &'a str) -> Result<Vec<u8>, Failure<'a>> {
     if fs::exists(rt, path)? {
         return Ok(fs::read(rt, path)?);
     }
@@ -12,7 +12,7 @@ pub(crate) fn read_record(rt: &HostRuntime, path: &str) -> Result<Vec<u8>, Failu
 }
 
 // Writes the bytes beside the file, and then moves them over it: whatever happens, one of the two is there, whole.
-pub(crate) fn save(rt: &HostRuntime, path: &str, bytes: &[u8]) -> Result<(), Failure> {
+pub(crate) fn save<'a>(rt: &HostRuntime, path: &'a str, bytes: &[u8]) -> Result<(), Failure<'a>> {
     let beside = format!(in rt.alloc(); "{path}.new")?;
     let mut file = fs::create(rt, beside.as_str())?;
     file.write_all(bytes)?;

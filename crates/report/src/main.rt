@@ -14,8 +14,7 @@ use journal::values::pack;
 use shown::{Choice, show_line};
 use sink::Sink;
 use sink::block_file::BlockFile;
-use sink::fault::Refusal;
-use statement::{Refused, Statement};
+use statement::Statement;
 use std::io::Write;
 use std::process::ExitCode;
 use std::{env, fs};
@@ -26,34 +25,26 @@ const RECORD: &str = "record.bin";
 // Values that show what is quoted: a blank, quotes, a backslash, and no byte at all.
 const EXAMPLES: [&str; 5] = ["par", "zero coupon", "\"dirty\" price", "act\\act isda", ""];
 
-// The refusal of a record, as an error.
-fn refused(rt: &HostRuntime, path: &str, refusal: Refusal) -> Failure {
-    match format!(in rt.alloc(); "{}", Refused { path, refusal }) {
-        Ok(text) => Failure::Refused(text),
-        Err(_) => Failure::Said("no memory"),
-    }
-}
-
-fn open(rt: &HostRuntime, path: &str, bytes: Vec<u8>) -> Result<BlockFile, Failure> {
-    match BlockFile::open(bytes) {
-        Ok(file) => Ok(file),
-        Err(back) => Err(refused(rt, path, back.refusal)),
-    }
+fn open(path: &str, bytes: Vec<u8>) -> Result<BlockFile, Failure<'_>> {
+    BlockFile::open(bytes).map_err(|back| Failure::Record {
+        path,
+        refusal: back.refusal,
+    })
 }
 
 // Puts the line into the record on disk, reads it back, and states how.
-fn record_line(rt: &HostRuntime, list: &[u8], line: &[u8]) -> Result<(), Failure> {
+fn record_line(rt: &HostRuntime, list: &[u8], line: &[u8]) -> Result<(), Failure<'static>> {
     let heap = rt.alloc();
-    let mut file = open(rt, RECORD, read_record(rt, RECORD)?)?;
-    let touched = match append(&mut file, line) {
-        Ok(touched) => touched,
-        Err(fault) => return Err(refused(rt, RECORD, fault.into())),
-    };
+    let mut file = open(RECORD, read_record(rt, RECORD)?)?;
+    let touched = append(&mut file, line).map_err(|fault| Failure::Record {
+        path: RECORD,
+        refusal: fault.into(),
+    })?;
     save(rt, RECORD, file.bytes())?;
-    let again = open(rt, RECORD, fs::read(rt, RECORD)?)?;
+    let again = open(RECORD, fs::read(rt, RECORD)?)?;
     let text = text_of(heap, &file)?;
     if !holds(heap, &again, &text)? {
-        return Err(Failure::Said("the record on disk does not hold what was put"));
+        return Err(Failure::Lost);
     }
     let quoted = quoted_values(heap, list)?;
     let statement = Statement {
@@ -71,12 +62,13 @@ fn record_line(rt: &HostRuntime, list: &[u8], line: &[u8]) -> Result<(), Failure
 }
 
 // Lists the values, shows the line on the sheets chosen, and records it.
-fn list_values(rt: &HostRuntime, values: &[String], choices: &[Choice]) -> Result<(), Failure> {
+fn list_values(
+    rt: &HostRuntime,
+    values: &[String],
+    choices: &[Choice],
+) -> Result<(), Failure<'static>> {
     let heap = rt.alloc();
-    let list = match pack(heap, values) {
-        Ok(list) => list,
-        Err(why) => return Err(Failure::Refused(format!(in heap; "{why}")?)),
-    };
+    let list = pack(heap, values)?;
     let mut line = listing(heap, &list)?;
     line.push(b'\n')?;
     rt.stdout().write_all(&line)?;
@@ -85,69 +77,82 @@ fn list_values(rt: &HostRuntime, values: &[String], choices: &[Choice]) -> Resul
 }
 
 // Writes what a record holds.
-fn show(rt: &HostRuntime, path: &str) -> Result<(), Failure> {
+fn show<'a>(rt: &HostRuntime, path: &'a str) -> Result<(), Failure<'a>> {
     if !fs::exists(rt, path)? {
-        return Err(Failure::Refused(format!(in rt.alloc(); "{path}: no such file")?));
+        return Err(Failure::NoFile(path));
     }
-    let file = open(rt, path, fs::read(rt, path)?)?;
+    let file = open(path, fs::read(rt, path)?)?;
     let text = text_of(rt.alloc(), &file)?;
     rt.stdout().write_all(&text)?;
     Ok(())
 }
 
-// Takes the sheets that the words begin with, each behind `--sheet`, and tells how many words that were.
-fn choose(rt: &HostRuntime, words: &[String], choices: &mut Vec<Choice>) -> Result<usize, Failure> {
-    let mut taken: usize = 0;
-    for pair in words.chunks_exact(2) {
-        if pair[0].as_str() != "--sheet" {
+// Takes the sheets that the words begin with, each behind `--sheet`, and answers the words behind them.
+fn choose<'a>(words: &'a [String], choices: &mut Vec<Choice>) -> Result<&'a [String], Failure<'a>> {
+    let mut words = words;
+    while let [flag, name, rest @ ..] = words {
+        if flag.as_str() != "--sheet" {
             break;
         }
-        let Some(choice) = Choice::from_word(pair[1].as_str()) else {
-            return Err(Failure::Refused(format!(in rt.alloc(); "{}: no such sheet", pair[1])?));
-        };
-        choices.push(choice)?;
-        taken = taken.saturating_add(2);
+        let name = name.as_str();
+        choices.push(Choice::try_from(name)?)?;
+        words = rest;
     }
-    Ok(taken)
+    Ok(words)
 }
 
 // Lists the words, or the examples where there is none.
-fn list_words(rt: &HostRuntime, words: &[String], choices: &[Choice]) -> Result<(), Failure> {
+fn list_words<'a>(
+    rt: &HostRuntime,
+    words: &'a [String],
+    choices: &[Choice],
+) -> Result<(), Failure<'a>> {
     match words {
         [] => {
-            let mut values = Vec::new(rt.alloc());
-            for value in EXAMPLES {
-                values.push(String::from_str(rt.alloc(), value)?)?;
-            }
-            list_values(rt, &values, choices)
+            let heap = rt.alloc();
+            let examples: Vec<String> = EXAMPLES
+                .iter()
+                .map(|value| String::from_str(heap, value))
+                .try_collect(heap)?;
+            list_values(rt, &examples, choices)
         }
         [word, values @ ..] if word.as_str() == "--" => list_values(rt, values, choices),
         values => list_values(rt, values, choices),
     }
 }
 
-fn run(rt: &HostRuntime) -> Result<(), Failure> {
-    let heap = rt.alloc();
-    let words: Vec<String> = env::args(rt)?.skip(1).collect(heap)?;
-    match words.as_slice() {
+// Does what the words ask for.
+fn run<'a>(rt: &HostRuntime, words: &'a [String]) -> Result<(), Failure<'a>> {
+    match words {
         [word, path] if word.as_str() == "open" => show(rt, path.as_str()),
         words => {
-            let mut choices = Vec::new(heap);
-            let taken = choose(rt, words, &mut choices)?;
-            match words.get(taken..) {
-                Some(rest) => list_words(rt, rest, &choices),
-                None => Ok(()),
-            }
+            let mut choices = Vec::new(rt.alloc());
+            let rest = choose(words, &mut choices)?;
+            list_words(rt, rest, &choices)
         }
     }
 }
 
-fn main(rt: HostRuntime) -> ExitCode {
-    match run(&rt) {
+// The words behind the program's name.
+fn words(rt: &HostRuntime) -> Result<Vec<String>, Failure<'static>> {
+    Ok(env::args(rt)?.skip(1).collect(rt.alloc())?)
+}
+
+// Tells a failure on standard error.
+fn told(rt: &HostRuntime, done: Result<(), Failure<'_>>) -> ExitCode {
+    match done {
         Ok(()) => ExitCode::SUCCESS,
         Err(why) => {
             let _ = eprintln!(rt; "report: {why}");
             ExitCode::FAILURE
         }
+    }
+}
+
+fn main(rt: HostRuntime) -> ExitCode {
+    // Both are told here: a failure may name one of the words, which do not outlive this.
+    match words(&rt) {
+        Ok(words) => told(&rt, run(&rt, &words)),
+        Err(why) => told(&rt, Err(why)),
     }
 }

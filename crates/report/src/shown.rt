@@ -1,7 +1,6 @@
 // The line on the sheets that were chosen.
 use crate::failure::Failure;
 use crate::files::save;
-use crate::statement::Overlong;
 use builder::styling::Styles;
 use journal::message::{Line, shown_forms};
 use parts::{measure, print};
@@ -11,7 +10,6 @@ use sheet::tag::Tag;
 use sheet::terminal::Terminal;
 use sink::byte_area::ByteArea;
 use std::io::Write;
-use util::packed::PackError;
 
 const PAGE: &str = "page.html";
 
@@ -49,85 +47,81 @@ pub(crate) enum Choice {
     Page,
 }
 
-impl Choice {
+impl<'a> TryFrom<&'a str> for Choice {
+    type Error = Failure<'a>;
+
     // The sheet that a word names.
-    pub(crate) fn from_word(word: &str) -> Option<Choice> {
+    fn try_from(word: &'a str) -> Result<Choice, Failure<'a>> {
         match word {
-            "terminal" => Some(Choice::Terminal),
-            "tag" => Some(Choice::Tag),
-            "page" => Some(Choice::Page),
-            _ => None,
+            "terminal" => Ok(Choice::Terminal),
+            "tag" => Ok(Choice::Tag),
+            "page" => Ok(Choice::Page),
+            _ => Err(Failure::NoSheet(word)),
         }
     }
 }
 
 // The bytes of the line on a sheet.
-fn line_on<S: Sheet>(rt: &HostRuntime, forms: &[u8], sheet: &S) -> Result<ByteArea, Failure> {
+fn line_on<S: Sheet>(
+    rt: &HostRuntime,
+    forms: &[u8],
+    sheet: &S,
+) -> Result<ByteArea, Failure<'static>> {
     let line = Line { forms };
+    // A length beyond 64 bits is told as their largest number.
     let wanted = measure(&line, sheet).unwrap_or(u64::MAX);
     if wanted > 1_048_576 {
-        return Err(Failure::Refused(format!(in rt.alloc(); "{}", Overlong { wanted })?));
+        return Err(Failure::Overlong(wanted));
     }
     let memory = vec![in rt.alloc(); 0u8; wanted as usize]?;
-    match ByteArea::open(memory) {
-        Ok(mut area) => match print(&line, sheet, &mut area) {
-            Ok(()) => Ok(area),
-            Err(_) => Err(Failure::Said("the line did not fit into the area that was made for it")),
-        },
-        Err(_) => Err(Failure::Said("the area for the line was refused")),
-    }
+    let mut area = ByteArea::open(memory).map_err(|_| Failure::NoArea)?;
+    print(&line, sheet, &mut area).map_err(|_| Failure::NoFit)?;
+    Ok(area)
 }
 
-// Writes the page around the sheet's bytes.
-fn save_page(rt: &HostRuntime, bytes: &[u8]) -> Result<(), Failure> {
+// Shows the line on one sheet, on standard output.
+fn show_on<S: Sheet>(rt: &HostRuntime, forms: &[u8], sheet: &S) -> Result<(), Failure<'static>> {
+    let area = line_on(rt, forms, sheet)?;
+    rt.stdout().write_all(area.held_bytes())?;
+    println!(rt; "")?;
+    Ok(())
+}
+
+// Shows the line as a page, in its file.
+fn show_page(rt: &HostRuntime, forms: &[u8]) -> Result<(), Failure<'static>> {
+    let area = line_on(rt, forms, &Page)?;
+    let bytes = area.held_bytes();
     let mut page = Vec::new(rt.alloc());
     page.extend_from_slice(HEAD)?;
     page.extend_from_slice(bytes)?;
     page.extend_from_slice(FOOT)?;
-    save(rt, PAGE, &page)
-}
-
-// Shows the line on one sheet: on standard output, or as a page in its file.
-fn show_on(rt: &HostRuntime, forms: &[u8], choice: Choice) -> Result<(), Failure> {
-    let area = match choice {
-        Choice::Terminal => line_on(
-            rt,
-            forms,
-            &Terminal {
-                styles: Styles::styled(),
-            },
-        )?,
-        Choice::Tag => line_on(rt, forms, &Tag)?,
-        Choice::Page => line_on(rt, forms, &Page)?,
-    };
-    let bytes = area.held_bytes();
-    match choice {
-        Choice::Page => {
-            save_page(rt, bytes)?;
-            println!(rt; "page: {} bytes, in {PAGE}", bytes.len())?;
-        }
-        _ => {
-            rt.stdout().write_all(bytes)?;
-            println!(rt; "")?;
-        }
-    }
+    save(rt, PAGE, &page)?;
+    println!(rt; "page: {} bytes, in {PAGE}", bytes.len())?;
     Ok(())
 }
 
 // Shows the line of the values on each sheet chosen; without one, nothing is done that could fail.
-pub(crate) fn show_line(rt: &HostRuntime, list: &[u8], choices: &[Choice]) -> Result<(), Failure> {
+pub(crate) fn show_line(
+    rt: &HostRuntime,
+    list: &[u8],
+    choices: &[Choice],
+) -> Result<(), Failure<'static>> {
     if choices.is_empty() {
         return Ok(());
     }
-    let forms = match shown_forms(rt.alloc(), list) {
-        Ok(forms) => forms,
-        Err(PackError::Long) => return Err(Failure::Said(
-            "a shown form has more than 65,535 bytes",
-        )),
-        Err(PackError::NoMemory) => return Err(Failure::Said("no memory")),
-    };
+    let forms = shown_forms(rt.alloc(), list).map_err(|why| Failure::Unshown(why))?;
     for choice in choices {
-        show_on(rt, &forms, *choice)?;
+        match choice {
+            Choice::Terminal => show_on(
+                rt,
+                &forms,
+                &Terminal {
+                    styles: Styles::styled(),
+                },
+            )?,
+            Choice::Tag => show_on(rt, &forms, &Tag)?,
+            Choice::Page => show_page(rt, &forms)?,
+        }
     }
     Ok(())
 }

@@ -2,11 +2,11 @@
 use Rattle.std.specs.Prelude.{◌≡◌, ℕ, ◌+◌, ◌*◌, ◌≤◌, Bool, true, false, cond, List, [], ◌∷◌, ◌++◌, length, Some, None, Option, ◌==◌, refl}
 use Rattle.std.proofs.Common.{arith, length-append}
 use Rattle.std.specs.List.{flat_map}
-use Rattle.util.proofs.Quotes.{joined_append}
+use Rattle.std.proofs.lemmas.Grind.{flat_map-append}
 use Rattle.sheet.specs.Frames.{framing}
-use Rattle.sheet.specs.Page.{control, element, start_tag, page_byte, end_tag, page}
+use Rattle.sheet.specs.Page.{control, element, start_tag, page_byte, end_tag}
 use Rattle.sheet.specs.Parts.{Text, Label, error, valid, invalid, literal, given, ready, Part, fixed, labelled, text_of}
-use Rattle.sheet.specs.Tag.{start_mark, tag_byte, end_mark, tag}
+use Rattle.sheet.specs.Tag.{start_mark, tag_byte, end_mark}
 use Rattle.sheet.specs.Terminal.{style_in, terminal}
 use Rattle.builder.specs.Marks.{mark, color_mark, marks, is_plain, reset}
 use Rattle.builder.specs.declared.styling.AnsiColor.{AnsiColor}
@@ -14,15 +14,15 @@ use Rattle.builder.specs.declared.styling.Style.{Style}
 use Rattle.builder.specs.declared.styling.Styles.{Styles}
 
 -- of every sheet that frames its texts
-framing_joins : (before : Label → List ℕ) (code : ℕ → List ℕ) (after : Label → List ℕ) (a b : Text) →
+pub framing_joins : (before : Label → List ℕ) (code : ℕ → List ℕ) (after : Label → List ℕ) (a b : Text) →
     framing before code after (fixed (a ++ b)) ≡ framing before code after (fixed a) ++ framing before code after (fixed b)
-framing_joins before code after a b = joined_append code a b
+framing_joins before code after a b = flat_map-append code a b
 
 coded_bounded : (code : ℕ → List ℕ) → ((b : ℕ) → length (code b) ≤ 16) → (t : Text) → length (flat_map code t) ≤ 16 * length t
 coded_bounded code h [] = omega arith
 coded_bounded code h (b ∷ t) = omega (arith, h b, coded_bounded code h t, length-append (code b) (flat_map code t))
 
-framing_bounded : (before : Label → List ℕ) (code : ℕ → List ℕ) (after : Label → List ℕ) →
+pub framing_bounded : (before : Label → List ℕ) (code : ℕ → List ℕ) (after : Label → List ℕ) →
     ((b : ℕ) → length (code b) ≤ 16) → ((l : Label) → length (before l) + length (after l) ≤ 64) →
     (p : Part) → length (framing before code after p) ≤ 16 * length (text_of p) + 64
 framing_bounded before code after h k (fixed t) = omega (arith, coded_bounded code h t)
@@ -35,18 +35,14 @@ either_bounded true x y g h = g
 either_bounded false x y g h = h
 
 -- the tag sheet
-pub tag_joins : (a b : Text) → tag (fixed (a ++ b)) ≡ tag (fixed a) ++ tag (fixed b)
-tag_joins a b = framing_joins start_mark tag_byte end_mark a b
+pub tag_byte_short : (b : ℕ) → length (tag_byte b) ≤ 16
+tag_byte_short b = either_bounded (b == 27) _ _ (omega arith) (omega arith)
 
-pub tag_bounded : (p : Part) → length (tag p) ≤ 16 * length (text_of p) + 64
-tag_bounded p =
-    framing_bounded start_mark tag_byte end_mark (λ b. either_bounded (b == 27) _ _ (omega arith) (omega arith)) (λ l. omega arith) p
+pub tag_edges : (l : Label) → length (start_mark l) + length (end_mark l) ≤ 64
+tag_edges l = omega arith
 
 -- the page sheet
-pub page_joins : (a b : Text) → page (fixed (a ++ b)) ≡ page (fixed a) ++ page (fixed b)
-page_joins a b = framing_joins (λ l. start_tag (element l)) page_byte (λ l. end_tag (element l)) a b
-
-page_edges : (l : Label) → length (start_tag (element l)) + length (end_tag (element l)) ≤ 64
+pub page_edges : (l : Label) → length (start_tag (element l)) + length (end_tag (element l)) ≤ 64
 page_edges error = omega arith
 page_edges valid = omega arith
 page_edges invalid = omega arith
@@ -54,13 +50,10 @@ page_edges literal = omega arith
 page_edges given = omega arith
 page_edges ready = omega arith
 
-pub page_bounded : (p : Part) → length (page p) ≤ 16 * length (text_of p) + 64
-page_bounded p = framing_bounded (λ l. start_tag (element l)) page_byte (λ l. end_tag (element l)) byte_bounded page_edges p
-  where
-    byte_bounded : (b : ℕ) → length (page_byte b) ≤ 16
-    byte_bounded b =
-        either_bounded (b == 38) _ _ (omega arith) (either_bounded (b == 60) _ _ (omega arith)
-        (either_bounded (b == 62) _ _ (omega arith) (either_bounded (control b) _ _ (omega arith) (omega arith))))
+pub page_byte_short : (b : ℕ) → length (page_byte b) ≤ 16
+page_byte_short b =
+    either_bounded (b == 38) _ _ (omega arith) (either_bounded (b == 60) _ _ (omega arith)
+    (either_bounded (b == 62) _ _ (omega arith) (either_bounded (control b) _ _ (omega arith) (omega arith))))
 
 -- the terminal sheet: a style has three marks at most
 pub terminal_joins : (s : Styles) (a b : Text) → terminal s (fixed (a ++ b)) ≡ terminal s (fixed a) ++ terminal s (fixed b)

@@ -1,3 +1,4 @@
+pub mod Coded
 pub mod Ecma48
 pub mod Frames
 pub mod Kept
@@ -11,6 +12,5 @@ pub mod Terminal
 pub mod Pages
 pub mod Codes
 pub mod Symbols
-pub mod Puts
 pub mod Loops
 pub mod Tags

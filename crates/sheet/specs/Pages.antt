@@ -6,7 +6,7 @@ use Rattle.std.specs.List.{flat_map, AllByRecursion}
 use Rattle.std.proofs.lemmas.List.{append_assoc, append-nil}
 use Rattle.std.proofs.lemmas.Bool.{eqb-true, ltb-true, ltb-false, lt-ltb, le-ltb, ne_eqb, or_cases, and_parts, cond-true, cond-false}
 use Rattle.util.specs.Shown.{hex_digit}
-use Rattle.util.proofs.Quotes.{joined_append}
+use Rattle.std.proofs.lemmas.Grind.{flat_map-append}
 use Rattle.sheet.specs.Laws.{PagesLegible, PageElements}
 use Rattle.sheet.specs.Page.{control, page_byte, page_by, Elements, element, page}
 use Rattle.sheet.specs.Parts.{Text, Label, error, valid, invalid, literal, given, ready, labelled, Symbol, byte, whole}
@@ -166,7 +166,7 @@ module _ (name : Label → Text) (good : Elements name) where
 
 pub pages_legible : PagesLegible
 unfolding reads
-pages_legible name good = legible (page_by name) (λ a b. joined_append page_byte a b) (reads name good) (apart name good)
+pages_legible name good = legible (page_by name) (λ a b. flat_map-append page_byte a b) (reads name good) (apart name good)
 
 -- the page sheet's own names
 label : Text → Option Label

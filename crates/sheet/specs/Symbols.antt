@@ -2,15 +2,14 @@
 use Rattle.std.specs.Prelude.{◌≡◌, ℕ, List, [], ◌∷◌, ◌++◌, map, length, refl}
 use Rattle.std.proofs.Common.{sym, ◌∙◌, ap, ap₂, arith}
 use Rattle.std.specs.List.{flat_map}
-use Rattle.std.proofs.lemmas.List.{append-nil, length-append, map-append}
-use Rattle.util.proofs.Quotes.{joined_append}
+use Rattle.std.proofs.lemmas.List.{append-nil, length-append, map-append, nil_from_length}
+use Rattle.std.proofs.lemmas.Grind.{flat_map-append}
 use Rattle.sheet.specs.Parts.{Text, Label, Part, fixed, labelled, ahead, tidy, Tidy, Symbol, byte, whole, symbols_of, symbols, relabel, symbols_by}
 use Rattle.sheet.specs.Sheets.{showing}
-use Rattle.sheet.specs.Puts.{no_bytes}
 use Rattle.sheet.specs.Laws.{TidyTidies, TidySays, TidyShows}
 
 pub symbols_append : (p q : List Part) → symbols (p ++ q) ≡ symbols p ++ symbols q
-symbols_append p q = joined_append symbols_of p q
+symbols_append p q = flat_map-append symbols_of p q
 
 pub symbols_by_append : {L : Type 0} (f : Label → L) (p q : List Part) → symbols_by f (p ++ q) ≡ symbols_by f p ++ symbols_by f q
 symbols_by_append f p q = ap (map (relabel f)) (symbols_append p q) ∙ map-append (relabel f) (symbols p) (symbols q)
@@ -102,7 +101,7 @@ shown_symbol show (whole l t) = show (labelled l t)
 
 module _ (show : Part → List ℕ) (joins : (a b : Text) → show (fixed (a ++ b)) ≡ show (fixed a) ++ show (fixed b)) where
   empty_shows : show (fixed []) ≡ []
-  empty_shows = no_bytes (show (fixed [])) (let e = ap (λ (r : List ℕ). length r) (joins [] []) in omega (arith, length-append (show (fixed [])) (show (fixed []))))
+  empty_shows = nil_from_length (show (fixed [])) (let e = ap (λ (r : List ℕ). length r) (joins [] []) in omega (arith, length-append (show (fixed [])) (show (fixed []))))
 
   fixed_shows : (t : Text) → show (fixed t) ≡ flat_map (shown_symbol show) (map byte t)
   fixed_shows [] = empty_shows
@@ -115,7 +114,7 @@ module _ (show : Part → List ℕ) (joins : (a b : Text) → show (fixed (a ++ 
   -- the showing of a list of parts is that of its symbols
   pub showing_symbols : (ps : List Part) → showing show ps ≡ flat_map (shown_symbol show) (symbols ps)
   showing_symbols [] = refl
-  showing_symbols (p ∷ ps) = ap₂ ◌++◌ (part_shows p) (showing_symbols ps) ∙ sym (joined_append (shown_symbol show) (symbols_of p) (symbols ps))
+  showing_symbols (p ∷ ps) = ap₂ ◌++◌ (part_shows p) (showing_symbols ps) ∙ sym (flat_map-append (shown_symbol show) (symbols_of p) (symbols ps))
 
   pub showing_alike : (p q : List Part) → symbols p ≡ symbols q → showing show p ≡ showing show q
   showing_alike p q e = showing_symbols p ∙ ap (flat_map (shown_symbol show)) e ∙ sym (showing_symbols q)

@@ -5,10 +5,10 @@ use Rattle.std.proofs.Common.{sym, ◌∙◌, ap, ap₂}
 use Rattle.std.specs.List.{flat_map}
 use Rattle.std.proofs.lemmas.List.{append_assoc}
 use Rattle.std.proofs.lemmas.Bool.{eqb-true}
-use Rattle.sheet.specs.Kept.{tag_joins}
+use Rattle.sheet.specs.Kept.{framing_joins}
 use Rattle.sheet.specs.Parts.{Text, Label, error, valid, invalid, literal, given, ready, Symbol, byte, whole}
 use Rattle.sheet.specs.Sheets.{Legible}
-use Rattle.sheet.specs.Tag.{letter, tag_byte, tag}
+use Rattle.sheet.specs.Tag.{letter, start_mark, tag_byte, end_mark, tag}
 use Rattle.sheet.specs.Codes.{Reads, Any, legible}
 use Rattle.sheet.specs.Symbols.{shown_symbol}
 
@@ -65,4 +65,4 @@ reads = record { View = Symbol Label; view = λ x. x; same = λ x y e. ap (shown
 
 pub tag_legible : Legible tag
 unfolding reads
-tag_legible = legible tag tag_joins reads (λ x y e. e)
+tag_legible = legible tag (framing_joins start_mark tag_byte end_mark) reads (λ x y e. e)

@@ -1,14 +1,13 @@
 // The tag sheet, for programs that read messages: a labelled text stands between 1B with its role's initial and 1B z, and the byte 1B is doubled in every text.
-ghost use Rattle.sheet.specs.Kept.{tag_joins, tag_bounded};
-ghost use Rattle.sheet.specs.Tag.{start_mark, tag_byte, end_mark, tag};
+ghost use Rattle.sheet.specs.Kept.{tag_byte_short, tag_edges};
+ghost use Rattle.sheet.specs.Tag.{start_mark, tag_byte, end_mark};
 ghost use Rattle.sheet.specs.Tags.{tag_legible};
 
-use crate::fault::SheetFault;
+use crate::LegibleSheet;
 use crate::markup::{Code, Markup};
 use crate::role::Role;
-use crate::{LegibleSheet, Sheet, markup};
-use sink::Sink;
 
+// The tag sheet; it needs no setting.
 #[derive(Clone, Copy, Debug)]
 pub struct Tag;
 
@@ -18,6 +17,10 @@ impl Markup for Tag {
     ghost coded = { λ _. tag_byte };
 
     ghost after = { λ _. end_mark };
+
+    ghost short = { λ _. tag_byte_short };
+
+    ghost edges = { λ _. tag_edges };
 
     fn opening(&self, role: Role) -> &[u8] {
         match role {
@@ -38,32 +41,11 @@ impl Markup for Tag {
         }
     }
 
-    fn is_plain(&self, b: u8) -> bool {
-        b != 0x1b
-    }
-
-    fn code(&self, b: u8) -> Code {
-        let len = if b == 0x1b { 2 } else { 1 };
-        Code {
-            bytes: [b, b, 0, 0, 0, 0, 0, 0, 0],
-            len,
+    fn code(&self, b: u8) -> Option<Code> {
+        match b {
+            0x1b => Some(Code::Constant(b"\x1b\x1b")),
+            _ => None,
         }
-    }
-}
-
-impl Sheet for Tag {
-    ghost shows = { λ _. tag };
-
-    ghost joins = { λ _. tag_joins };
-
-    ghost bounded = { λ _. tag_bounded };
-
-    fn measure(&self, role: Role, text: &[u8]) -> Option<u64> {
-        markup::measure(self, role, text)
-    }
-
-    fn print<K: Sink>(&self, role: Role, text: &[u8], sink: &mut K) -> Result<(), SheetFault> {
-        markup::print(self, role, text, sink)
     }
 }
 

@@ -1,68 +1,64 @@
 -- Text added to blocks: the block in use, and what stays.
-use Rattle.std.proofs.Common.{◌≡◌, ℕ, suc, ◌+◌, ◌-◌, ◌*◌, ◌/◌, ◌%◌, ◌<◌, ◌≤◌, List, [], ◌++◌, length, take, drop, sym, ap, ◌∙◌, append_assoc, arith, length-append, length-drop, take-add}
+use Rattle.std.proofs.Common.{◌≡◌, ℕ, suc, ◌+◌, ◌-◌, ◌*◌, ◌/◌, ◌%◌, ◌<◌, ◌≤◌, List, [], ◌++◌, length, take, drop, sym, ap, ◌∙◌, append_assoc, append-nil, arith, length-append, length-drop}
 use borrow.Rule.Slice.PartMut.{put_mid}
-use Rattle.std.proofs.lemmas.List.{take_all, drop_all, drop-drop, drop-append-le, length-take-le}
+use Rattle.std.proofs.lemmas.List.{take_all, drop_all, drop-drop, drop-append-le, take-take, take-append-drop}
 use Rattle.sink.specs.File.{Kept}
-use Rattle.sink.specs.Layout.{block_of, encode, texts, full, used}
+use Rattle.sink.specs.Layout.{block_of, encode, full, used}
 use Rattle.sink.proofs.Blocks.{take_text}
-use Rattle.sink.proofs.Encoding.{block_at, blocks_before, blocks_from, encode_ahead, encode_one_block, encode_split, length_held}
+use Rattle.sink.proofs.Encoding.{block_at, blocks_before, blocks_from, encode_ahead, encode_one_block, encode_split}
 
--- The block in use of a file d that holds t, of length at; k is the length of the part.
-in_use : (n at k : ℕ) (t d : List ℕ) → length t ≡ at → at < 508 * n → d ≡ encode n t → k ≡ 512
-    → take k (drop (512 * (at / 508)) d) ≡ block_of (drop (508 * (at / 508)) t)
-in_use n at k t d e h f q =
+-- The block in use of a file d that holds t, of length at.
+in_use : (n at : ℕ) (t d : List ℕ) → length t ≡ at → at < 508 * n → d ≡ encode n t → take 512 (drop (512 * (at / 508)) d) ≡ block_of (drop (508 * (at / 508)) t)
+in_use n at t d e h f =
     let w : length (drop (508 * (at / 508)) t) ≤ 508 = simp length-drop (omega arith) in
-    block_at n (at / 508) k t d (omega arith) f q ∙ ap block_of (take_all 508 (drop (508 * (at / 508)) t) w)
+    block_at n (at / 508) t d (omega arith) f ∙ ap block_of (take_all 508 (drop (508 * (at / 508)) t) w)
 
-in_use_text : (n at k : ℕ) (t d : List ℕ) → length t ≡ at → at < 508 * n → d ≡ encode n t → k ≡ 512
-    → take (at % 508) (take k (drop (512 * (at / 508)) d)) ≡ drop (508 * (at / 508)) t
-in_use_text n at k t d e h f q =
+in_use_text : (n at : ℕ) (t d : List ℕ) → length t ≡ at → at < 508 * n → d ≡ encode n t → take (at % 508) (drop (512 * (at / 508)) d) ≡ drop (508 * (at / 508)) t
+in_use_text n at t d e h f =
     let w : length (drop (508 * (at / 508)) t) ≡ at % 508 = simp length-drop (omega arith) in
-    ap (λ (l : List ℕ). take (at % 508) l) (in_use n at k t d e h f q) ∙ take_text (drop (508 * (at / 508)) t) (at % 508) w
+    sym (take-take (at % 508) 512 (drop (512 * (at / 508)) d) (omega arith))
+    ∙ ap (λ (l : List ℕ). take (at % 508) l) (in_use n at t d e h f) ∙ take_text (drop (508 * (at / 508)) t) (at % 508) w
 
-pub in_use_sound : (n at k : ℕ) (t d : List ℕ) → length t ≡ at → at < 508 * n → d ≡ encode n t → k ≡ 512
-    → take k (drop (512 * (at / 508)) d) ≡ block_of (take (at % 508) (take k (drop (512 * (at / 508)) d)))
-in_use_sound n at k t d e h f q = in_use n at k t d e h f q ∙ ap block_of (sym (in_use_text n at k t d e h f q))
+pub in_use_sound : (n at : ℕ) (t d : List ℕ) → length t ≡ at → at < 508 * n → d ≡ encode n t
+    → take 512 (drop (512 * (at / 508)) d) ≡ block_of (take (at % 508) (drop (512 * (at / 508)) d))
+in_use_sound n at t d e h f = in_use n at t d e h f ∙ ap block_of (sym (in_use_text n at t d e h f))
 
--- The file once block b, where t ends, holds p besides: q is what the part holds then.
-put_at : (n b k : ℕ) (t p d q : List ℕ) → b < n → 508 * b ≤ length t → length t + length p ≤ 508 * b + 508 → d ≡ encode n t → k ≡ 512
-    → q ≡ block_of (drop (508 * b) t ++ p) → put_mid (512 * b) k d q ≡ encode n (t ++ p)
-put_at n b k t p d q l h m e w f =
+-- The file once block b, where t ends, holds p besides.
+put_at : (n b : ℕ) (t p d : List ℕ) → b < n → 508 * b ≤ length t → length t + length p ≤ 508 * b + 508 → d ≡ encode n t
+    → take (512 * b) d ++ (block_of (drop (508 * b) t ++ p) ++ drop 512 (drop (512 * b) d)) ≡ encode n (t ++ p)
+put_at n b t p d l h m e =
     let u : List ℕ = drop (508 * b) t ++ p in
     let v : List ℕ = encode (n - (b + 1)) [] in
     let lu : length u ≤ 508 = simp (length-append, length-drop) (omega arith) in
-    let a : 512 * b + k ≡ 512 * (b + 1) = omega arith in
+    let a : 512 * b + 512 ≡ 512 * (b + 1) = omega arith in
     let c : n - b ≡ suc (n - (b + 1)) = omega arith in
-    let j : drop k (drop (512 * b) d) ≡ v =
-    drop-drop k (512 * b) d ∙ ap (λ (i : ℕ). drop i d) a ∙ blocks_from n (b + 1) t d (omega arith) e
+    let j : drop 512 (drop (512 * b) d) ≡ v =
+    drop-drop 512 (512 * b) d ∙ ap (λ (i : ℕ). drop i d) a ∙ blocks_from n (b + 1) t d (omega arith) e
     ∙ ap (λ (x : List ℕ). encode (n - (b + 1)) x) (drop_all (508 * (b + 1)) t (omega arith)) in
-    ap (λ (x : List ℕ). x ++ (q ++ drop k (drop (512 * b) d))) (blocks_before n b t d (omega arith) e)
-    ∙ ap (λ (x : List ℕ). encode b t ++ (q ++ x)) j
-    ∙ ap (λ (x : List ℕ). encode b t ++ (x ++ v)) f
+    ap (λ (x : List ℕ). x ++ (block_of u ++ drop 512 (drop (512 * b) d))) (blocks_before n b t d (omega arith) e)
+    ∙ ap (λ (x : List ℕ). encode b t ++ (block_of u ++ x)) j
     ∙ ap (λ (x : List ℕ). encode b t ++ x) (sym (ap (λ (i : ℕ). encode i u) c ∙ encode_one_block (n - (b + 1)) u lu))
     ∙ sym (encode_split n b (t ++ p) (omega arith) ∙ ap (λ (x : List ℕ). x ++ encode (n - b) (drop (508 * b) (t ++ p))) (encode_ahead b t p h)
     ∙ ap (λ (x : List ℕ). encode b t ++ encode (n - b) x) (drop-append-le (508 * b) t p h))
 
-pub in_use_more : (n at k : ℕ) (t p d q : List ℕ) → length t ≡ at → at < 508 * n → d ≡ encode n t → k ≡ 512 → at % 508 + length p ≤ 508
-    → q ≡ block_of (take (at % 508) (take k (drop (512 * (at / 508)) d)) ++ p)
-    → put_mid (512 * (at / 508)) k d q ≡ encode n (t ++ p)
-in_use_more n at k t p d q e h f w m g =
-    put_at n (at / 508) k t p d q (omega arith) (omega arith) (omega arith) f w
-    (g ∙ ap (λ (l : List ℕ). block_of (l ++ p)) (in_use_text n at k t d e h f w))
+-- The file once p is added to the block in use: x is the file from that block on, and q is what stands there then.
+pub in_use_more : (n at : ℕ) (t p d x q : List ℕ) → length t ≡ at → at < 508 * n → d ≡ encode n t → at % 508 + length p ≤ 508
+    → x ≡ drop (512 * (at / 508)) d → q ≡ block_of (take (at % 508) x ++ p) ++ drop 512 x
+    → take (512 * (at / 508)) d ++ q ≡ encode n (t ++ p)
+in_use_more n at t p d x q e h f m w g =
+    ap (λ (l : List ℕ). take (512 * (at / 508)) d ++ l) (g ∙ ap (λ (y : List ℕ). block_of (take (at % 508) y ++ p) ++ drop 512 y) w
+    ∙ ap (λ (y : List ℕ). block_of (y ++ p) ++ drop 512 (drop (512 * (at / 508)) d)) (in_use_text n at t d e h f))
+    ∙ put_at n (at / 508) t p d (omega arith) (omega arith) (omega arith) f
 
--- The held text with the first bytes of x behind it.
-pub length_more : (n held done : ℕ) (d x : List ℕ) → length d ≡ 512 * n → held ≤ 508 * n → done ≤ length x
-    → length (take held (texts n d) ++ take done x) ≡ held + done
-length_more n held done d x e h k =
-    let a = length_held n held d e h in
-    omega (arith, length-append (take held (texts n d)) (take done x), length-take-le done x k)
+-- What bytes are after a write to the part from a on: q is what the part holds then.
+pub put_rest : (a : ℕ) (xs q : List ℕ) → put_mid a (length xs - a) xs q ≡ take a xs ++ q
+put_rest a xs q =
+    let w : length (drop a xs) ≤ length xs - a = simp length-drop (omega arith) in
+    ap (λ (l : List ℕ). take a xs ++ (q ++ l)) (drop_all (length xs - a) (drop a xs) w) ∙ ap (λ (l : List ℕ). take a xs ++ l) (append-nil q)
 
--- One more piece of x.
-pub piece_more : (t x : List ℕ) (done more k : ℕ) → k ≡ more → (t ++ take done x) ++ take k (drop done x) ≡ t ++ take (done + more) x
-piece_more t x done more k e =
-    append_assoc t (take done x) (take k (drop done x))
-    ∙ ap (λ (i : ℕ). t ++ (take done x ++ take i (drop done x))) e
-    ∙ ap (λ (l : List ℕ). t ++ l) (sym (take-add done more x))
+-- A part of x moved behind t.
+pub piece_moved : (t x : List ℕ) (k : ℕ) → (t ++ take k x) ++ drop k x ≡ t ++ x
+piece_moved t x k = append_assoc t (take k x) (drop k x) ∙ ap (λ (l : List ℕ). t ++ l) (take-append-drop k x)
 
 -- Blocks that t fills, and those that t and p do not reach, stay.
 pub kept : (n i j : ℕ) (t p old new : List ℕ) → length t ≡ i → j ≡ i + length p → j ≤ 508 * n → old ≡ encode n t → new ≡ encode n (t ++ p)

@@ -1,6 +1,9 @@
 -- One block: what stands where in it, and that it holds one text.
-use Rattle.std.proofs.Common.{◌≡◌, ℕ, ◌+◌, ◌-◌, ◌*◌, ◌/◌, ◌%◌, ◌<◌, ◌≤◌, List, [], ◌∷◌, ◌++◌, length, get_or, take, drop, replicate, sym, refl, ap, ◌∙◌, subst, append_assoc, arith, length-append}
-use Rattle.std.proofs.lemmas.List.{take_at, drop_at, length-replicate, get_or-append_right, get_or_append_left, get_or-replicate}
+use Rattle.std.proofs.Common.{◌≡◌, ℕ, ◌+◌, ◌-◌, ◌*◌, ◌/◌, ◌%◌, ◌≤◌, List, [], ◌∷◌, ◌++◌, length, get_or, take, drop, replicate, All, sym, refl, ap, ◌∙◌, subst, append_assoc, arith, length-append}
+use Rattle.std.specs.List.{between}
+use Rattle.std.proofs.lemmas.List.{take_at, drop_at, length-replicate, get_or-append_right}
+use Rattle.std.proofs.lemmas.List.Elements.{All-replicate}
+use Rattle.std.proofs.lemmas.Slice.{between_is}
 use Rattle.sink.specs.Check.{check}
 use Rattle.sink.specs.Layout.{body_of, block_of}
 use Rattle.sink.specs.Laws.{Sample}
@@ -42,13 +45,12 @@ tail_at t i h k = ap (λ (l : List ℕ). get_or l i 0) (front_and_tail t) ∙ ge
 pub count_at : (d u : List ℕ) → length u ≤ 508 → d ≡ block_of u → get_or d 508 0 * 256 + get_or d 509 0 ≡ length u
 count_at d u h e = ap (λ (l : List ℕ). get_or l 508 0 * 256 + get_or l 509 0) e ∙ omega (arith, tail_at u 508 h (omega arith), tail_at u 509 h (omega arith))
 
-pub zero_at : (d u : List ℕ) (i : ℕ) → d ≡ block_of u → length u ≤ i → i < 508 → get_or d i 0 ≡ 0
-zero_at d u i e h k =
-    let n = length_front u (omega arith) in
-    ap (λ (l : List ℕ). get_or l i 0) (e ∙ front_and_tail u)
-    ∙ get_or_append_left (u ++ replicate (508 - length u) 0) _ 0 i (omega arith)
-    ∙ get_or-append_right u (replicate (508 - length u) 0) (length u) i 0 refl h
-    ∙ get_or-replicate (508 - length u) (i - length u) 0 0 (omega arith)
+-- The bytes behind the text of a block d that holds u are zeros.
+pub unused_zeros : (d u : List ℕ) (n : ℕ) → length u ≤ 508 → n ≡ length u → d ≡ block_of u → All (λ byte. byte ≡ 0) (between n 508 d)
+unused_zeros d u n h m e =
+    let z : between n 508 d ≡ replicate (508 - length u) 0 =
+    between_is d n 508 ∙ ap (λ (l : List ℕ). drop n l) (ap (λ (l : List ℕ). take 508 l) e ∙ take_front u h) ∙ drop_at u (replicate (508 - length u) 0) n (sym m) in
+    subst (All (λ byte. byte ≡ 0)) (sym z) (All-replicate (λ byte. byte ≡ 0) (508 - length u) 0 refl)
 
 pub check_at : (d u : List ℕ) → length u ≤ 508 → d ≡ block_of u → check (take 510 d) ≡ (get_or d 510 0, get_or d 511 0)
 check_at d u h e =

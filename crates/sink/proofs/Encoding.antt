@@ -1,6 +1,7 @@
 -- All blocks: which block holds what, that they hold one text, and that it can be read back.
-use Rattle.std.proofs.Common.{◌≡◌, ℕ, zero, suc, ◌+◌, ◌-◌, ◌*◌, ◌<◌, ◌≤◌, List, [], ◌++◌, length, take, drop, replicate, sym, refl, ap, ◌∙◌, inl, inr, append_assoc, arith, length-append, length-drop, length-take, take-add}
+use Rattle.std.proofs.Common.{◌≡◌, ℕ, zero, suc, ◌+◌, ◌-◌, ◌*◌, ◌<◌, ◌≤◌, List, [], ◌++◌, length, take, drop, replicate, sym, refl, ap, ◌∙◌, inl, inr, append_assoc, arith, length-append, length-drop, length-take}
 use Rattle.std.proofs.lemmas.List.{take_at, drop_at, take-append-drop, length-take-le, take-append-le, drop-append-le, drop-drop, take_all, drop_all, drop-take, take-take, nil_from_length, replicate-append-replicate}
+use Rattle.std.proofs.Math.Seq.{take-append-add}
 use Rattle.std.proofs.lemmas.Bool.{cases_lt}
 use Rattle.sink.specs.Layout.{block_of, encode, texts}
 use Rattle.sink.specs.Laws.{ZerosEmpty}
@@ -39,13 +40,13 @@ pub blocks_from : (n i : ℕ) (t d : List ℕ) → i ≤ n → d ≡ encode n t 
 blocks_from n i t d h e =
     ap (λ (l : List ℕ). drop (512 * i) l) (e ∙ encode_split n i t h) ∙ drop_at (encode i t) (encode (n - i) (drop (508 * i) t)) (512 * i) (length_encode i t)
 
-pub block_at : (n i k : ℕ) (t d : List ℕ) → i < n → d ≡ encode n t → k ≡ 512 → take k (drop (512 * i) d) ≡ block_of (take 508 (drop (508 * i) t))
+pub block_at : (n i : ℕ) (t d : List ℕ) → i < n → d ≡ encode n t → take 512 (drop (512 * i) d) ≡ block_of (take 508 (drop (508 * i) t))
 unfolding encode
-block_at n i k t d l e q =
+block_at n i t d l e =
     let u : List ℕ = drop (508 * i) t in
     let a : n - i ≡ suc (n - i - 1) = omega arith in
-    ap (λ (x : List ℕ). take k x) (blocks_from n i t d (omega arith) e ∙ ap (λ (m : ℕ). encode m u) a)
-    ∙ take_at (block_of (take 508 u)) (encode (n - i - 1) (drop 508 u)) k (length_block (take 508 u) (piece_length u) ∙ sym q)
+    ap (λ (x : List ℕ). take 512 x) (blocks_from n i t d (omega arith) e ∙ ap (λ (m : ℕ). encode m u) a)
+    ∙ take_at (block_of (take 508 u)) (encode (n - i - 1) (drop 508 u)) 512 (length_block (take 508 u) (piece_length u))
 
 -- Blocks that are full keep what they hold.
 pub encode_ahead : (i : ℕ) (t p : List ℕ) → 508 * i ≤ length t → encode i (t ++ p) ≡ encode i t
@@ -102,14 +103,6 @@ length_texts (suc n) bs h =
 pub length_held : (n held : ℕ) (bs : List ℕ) → length bs ≡ 512 * n → held ≤ 508 * n → length (take held (texts n bs)) ≡ held
 length_held n held bs h k = length-take-le held (texts n bs) (omega (arith, length_texts n bs (omega arith)))
 
--- To take more than a first part is to take all of it, and the rest of the second.
-take_past : (a b : List ℕ) (n k : ℕ) → length a ≡ n → n ≤ k → take k (a ++ b) ≡ a ++ take (k - n) b
-take_past a b n k e h =
-    let f : k ≡ n + (k - n) = omega arith in
-    ap (λ (i : ℕ). take i (a ++ b)) f ∙ take-add n (k - n) (a ++ b)
-    ∙ ap (λ (l : List ℕ). l ++ take (k - n) (drop n (a ++ b))) (take_at a b n e)
-    ∙ ap (λ (l : List ℕ). a ++ take (k - n) l) (drop_at a b n e)
-
 -- The text is read back.
 pub texts_encode : (n : ℕ) (t : List ℕ) (k : ℕ) → length t ≡ k → k ≤ 508 * n → take k (texts n (encode n t)) ≡ t
 unfolding encode texts
@@ -130,7 +123,7 @@ texts_encode (suc n) t k e h =
           take-append-le k (take 508 x) (texts n y) (omega arith) ∙ take-take k 508 x (omega arith) ∙ take_text (take 508 t) k (ap length z ∙ e) ∙ z)
       | inr l ↦ (let m : length (take 508 t) ≡ 508 = length-take-le 508 t (omega arith) in
           let r : length (drop 508 t) ≡ k - 508 = simp length-drop (omega arith) in
-          take_past (take 508 x) (texts n y) 508 k w l
+          ap (λ (i : ℕ). take i (take 508 x ++ texts n y)) (omega arith) ∙ take-append-add (take 508 x) (texts n y) (k - 508)
           ∙ ap (λ (v : List ℕ). v ++ take (k - 508) (texts n y)) (take_text (take 508 t) 508 m)
           ∙ ap (λ (v : List ℕ). take 508 t ++ v) (texts_encode n (drop 508 t) (k - 508) r (omega arith))
           ∙ take-append-drop 508 t)

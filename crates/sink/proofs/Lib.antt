@@ -4,6 +4,8 @@ pub mod Blocks
 pub mod Checks
 pub mod Encoding
 pub mod Files
+pub mod Fits
+pub mod Joined
 pub mod Opening
 pub mod Reading
 pub mod Sealing

@@ -1,28 +1,39 @@
 -- Reading: the text, piece by piece, out of the blocks.
-use Rattle.std.proofs.Common.{◌≡◌, ℕ, ◌+◌, ◌-◌, ◌*◌, ◌/◌, ◌%◌, ◌<◌, ◌≤◌, min, List, ◌++◌, length, take, drop, sym, ap, ◌∙◌, inl, inr, arith, length-drop, take-add}
+use Rattle.std.proofs.Common.{◌≡◌, ℕ, ◌+◌, ◌-◌, ◌*◌, ◌<◌, ◌≤◌, min, List, [], ◌++◌, length, get_or, take, drop, sym, ap, ◌∙◌, inl, inr, arith, length-drop, take-add}
 use borrow.Rule.Slice.PartMut.{put_mid}
 use Rattle.std.proofs.lemmas.List.{drop-drop, drop_all, take_at, length-take-le}
 use Rattle.std.proofs.lemmas.Slice.{take-put_mid}
 use Rattle.std.proofs.lemmas.Bool.{cases_lt}
+use Rattle.std.specs.List.{concat}
 use Rattle.sink.specs.Layout.{texts}
 use Rattle.sink.proofs.Encoding.{length_held, length_texts, texts_part, part_of_taken}
+use Rattle.sink.proofs.Joined.{Whole, length_joined, joined_at}
 
--- One more piece is read: j and k are its length and l its place, and q is what the part of the target holds then.
-pub read_more : (n from done more j k l : ℕ) (src out q : List ℕ) → length src ≡ 512 * n → from + done < 508 * n → (from + done) % 508 + more ≤ 508
-    → done + more ≤ length out → j ≡ more → k ≡ more → l ≡ 512 * ((from + done) / 508) + (from + done) % 508 → take done out ≡ take done (drop from (texts n src)) → q ≡ take j (drop l src)
-    → take (done + more) (put_mid done k out q) ≡ take (done + more) (drop from (texts n src))
-read_more n from done more j k l src out q h lt m le ej ek el e f =
-    let at : ℕ = from + done in
-    let a : 508 * (at / 508) + at % 508 ≡ at = omega arith in
-    let g : q ≡ take more (drop done (drop from (texts n src))) =
-    f ∙ ap (λ (i : ℕ). take i (drop l src)) ej ∙ ap (λ (i : ℕ). take more (drop i src)) el
-    ∙ sym (texts_part n (at / 508) (at % 508) more src (omega arith) (omega arith) m)
-    ∙ ap (λ (i : ℕ). take more (drop i (texts n src))) a ∙ ap (λ (x : List ℕ). take more x) (sym (drop-drop done from (texts n src))) in
-    let w : j ≤ length (drop l src) = simp length-drop (omega arith) in
-    let b : length q ≡ more = ap length f ∙ length-take-le j (drop l src) w ∙ ej in
+-- A part of the text that lies in the block x at b.
+part_in : (bs : List (List ℕ)) (b used more : ℕ) (x : List ℕ) → Whole bs → b < length bs → x ≡ get_or bs b [] → used + more ≤ 508
+    → take more (drop used x) ≡ take more (drop (508 * b + used) (texts (length bs) (concat bs)))
+part_in bs b used more x h l e m =
+    let d : List ℕ = concat bs in
+    ap (λ (y : List ℕ). take more (drop used y)) (e ∙ joined_at bs b h l)
+    ∙ part_of_taken used more 512 (drop (512 * b) d) (omega arith) ∙ ap (λ (y : List ℕ). take more y) (drop-drop used (512 * b) d)
+    ∙ sym (texts_part (length bs) b used more d (omega (arith, length_joined bs h)) l m)
+
+-- One more piece is read, out of the block x at b: j and k are its length, and q is what the part of the target holds then.
+pub read_more : (bs : List (List ℕ)) (from done b used more j k : ℕ) (x out q : List ℕ) → Whole bs → b < length bs → x ≡ get_or bs b []
+    → from + done ≡ 508 * b + used → used + more ≤ 508 → done + more ≤ length out → j ≡ more → k ≡ more
+    → take done out ≡ take done (drop from (texts (length bs) (concat bs))) → q ≡ take j (drop used x)
+    → take (done + more) (put_mid done k out q) ≡ take (done + more) (drop from (texts (length bs) (concat bs)))
+read_more bs from done b used more j k x out q h l e at m le ej ek t f =
+    let ts : List ℕ = texts (length bs) (concat bs) in
+    let g : q ≡ take more (drop done (drop from ts)) =
+    f ∙ ap (λ (i : ℕ). take i (drop used x)) ej ∙ part_in bs b used more x h l e m
+    ∙ ap (λ (i : ℕ). take more (drop i ts)) (sym at) ∙ ap (λ (y : List ℕ). take more y) (ap (λ (i : ℕ). drop i ts) (omega arith) ∙ sym (drop-drop done from ts)) in
+    let w : length x ≡ 512 = ap length e ∙ h b l in
+    let v : j ≤ length (drop used x) = simp length-drop (omega arith) in
+    let a : length q ≡ more = ap length f ∙ length-take-le j (drop used x) v ∙ ej in
     take-put_mid done k out q (done + more) (omega arith) (omega arith)
-    ∙ ap (λ (x : List ℕ). x ++ q) e ∙ ap (λ (x : List ℕ). take done (drop from (texts n src)) ++ x) g
-    ∙ sym (take-add done more (drop from (texts n src)))
+    ∙ ap (λ (y : List ℕ). y ++ q) t ∙ ap (λ (y : List ℕ). take done (drop from ts) ++ y) g
+    ∙ sym (take-add done more (drop from ts))
 
 -- A place past the end is as good as the end.
 drop_clamped : (from start : ℕ) (xs : List ℕ) → start ≡ min from (length xs) → drop start xs ≡ drop from xs

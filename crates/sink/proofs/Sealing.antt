@@ -1,11 +1,13 @@
 -- Writes into one block: text behind its own, then the count and the check.
-use Rattle.std.proofs.Common.{◌≡◌, ℕ, ◌+◌, ◌-◌, ◌*◌, ◌/◌, ◌%◌, ◌<◌, ◌≤◌, List, [], ◌∷◌, ◌++◌, length, get_or, take, drop, set, replicate, sym, refl, ap, ◌∙◌, subst, append_assoc, arith, length-append, length-drop, take-add}
+use Rattle.std.proofs.Common.{◌≡◌, ℕ, suc, ◌+◌, ◌-◌, ◌*◌, ◌/◌, ◌%◌, ◌<◌, ◌≤◌, List, [], ◌∷◌, ◌++◌, length, get_or, take, drop, set, replicate, All, sym, refl, ap, ◌∙◌, subst, append_assoc, arith, length-append, length-drop, length-take, take-add}
 use borrow.Rule.Slice.PartMut.{put_mid}
-use Rattle.std.proofs.lemmas.List.{take_at, drop_at, length-replicate, take-append-drop, length-take-le, set-append_right, drop-append-le, drop-replicate, set-get_or}
+use Rattle.std.proofs.lemmas.List.{take_at, drop_at, length-replicate, take-append-drop, length-take-le, take-take, set-append_right, drop-append-le, drop-replicate, set-get_or}
+use Rattle.std.specs.List.{between}
+use Rattle.std.proofs.lemmas.List.Edits.{length-between}
 use Rattle.std.proofs.lemmas.Slice.{take-put_mid}
 use Rattle.sink.specs.Check.{check}
 use Rattle.sink.specs.Layout.{body_of, block_of}
-use Rattle.sink.proofs.Blocks.{length_front, length_body, take_front}
+use Rattle.sink.proofs.Blocks.{length_front, length_body, length_block, take_front}
 
 four : (l : List ℕ) → length l ≡ 4 → l ≡ get_or l 0 0 ∷ get_or l 1 0 ∷ get_or l 2 0 ∷ get_or l 3 0 ∷ []
 four [] h = absurd (omega arith)
@@ -76,14 +78,16 @@ block_from d n h m e f z q =
     sym w ∙ ap (λ (l : List ℕ). set (set l 510 (get_or d 510 0)) 511 (get_or d 511 0)) (sym s)
     ∙ sealed d (take n d) n (get_or d 510 0, get_or d 511 0) h (length-take-le n d (omega arith)) m z (q ∙ ap (λ (l : List ℕ). check (take 510 l)) (sym s))
 
+all_zeros : (xs : List ℕ) → All (λ x. x ≡ 0) xs → xs ≡ replicate (length xs) 0
+all_zeros [] h = refl
+all_zeros (x ∷ xs) h = ap (λ (y : ℕ). y ∷ xs) (h 0 0 (omega arith)) ∙ ap (λ (l : List ℕ). 0 ∷ l) (all_zeros xs (λ k d l. h (suc k) d (omega arith)))
+
 -- Zeros from n on, as a test of that part tells them.
-pub zeros_from : (d : List ℕ) (n : ℕ) → length d ≡ 512 → n ≤ 508 → take (508 - n) (drop n d) ≡ replicate (length (take (508 - n) (drop n d))) 0
-    → take 508 d ≡ take n d ++ replicate (508 - n) 0
+pub zeros_from : (d : List ℕ) (n : ℕ) → length d ≡ 512 → n ≤ 508 → All (λ byte. byte ≡ 0) (between n 508 d) → take 508 d ≡ take n d ++ replicate (508 - n) 0
 zeros_from d n h m z =
     let a : 508 ≡ n + (508 - n) = omega arith in
-    let w : 508 - n ≤ length (drop n d) = simp length-drop (omega arith) in
-    ap (λ (i : ℕ). take i d) a ∙ take-add n (508 - n) d
-    ∙ ap (λ (l : List ℕ). take n d ++ l) (z ∙ ap (λ (i : ℕ). replicate i 0) (length-take-le (508 - n) (drop n d) w))
+    let w : length (between n 508 d) ≡ 508 - n = length-between d n 508 (omega arith) in
+    ap (λ (i : ℕ). take i d) a ∙ take-add n (508 - n) d ∙ ap (λ (l : List ℕ). take n d ++ l) (all_zeros (between n 508 d) z ∙ ap (λ (i : ℕ). replicate i 0) w)
 
 drop_zeros : (k m n : ℕ) (r : List ℕ) → k ≤ m → m - k ≡ n → drop k (replicate m 0 ++ r) ≡ replicate n 0 ++ r
 drop_zeros k m n r h e =
@@ -125,3 +129,16 @@ pub copied_front : (d p q : List ℕ) (u k : ℕ) → length d ≡ 512 → d ≡
 copied_front d p q u k h e n f g =
     let w : put_mid u k d q ≡ take u d ++ (p ++ drop (length p) (drop u d)) = ap (λ (l : List ℕ). put_mid u k d l) f ∙ ap (λ (i : ℕ). take u d ++ (p ++ drop i (drop u d))) g in
     ap (λ (l : List ℕ). take 508 l) w ∙ lengthened d p u h e n ∙ ap (λ (l : List ℕ). l ++ replicate (508 - (u + length p)) 0) (sym (copied_text d p q u k (omega arith) f))
+
+-- Bytes that begin with a block are at least as many.
+pub block_whole : (d : List ℕ) (u : ℕ) → u ≤ 508 → take 512 d ≡ block_of (take u d) → 512 ≤ length d
+block_whole d u h e =
+    let w : length (take u d) ≤ 508 = simp length-take (omega arith) in
+    omega (arith, ap length e, length_block (take u d) w, length-take 512 d)
+
+-- The first block x of bytes d.
+pub first_block : (d x : List ℕ) (u : ℕ) → u ≤ 508 → take 512 d ≡ block_of (take u d) → x ≡ take 512 d → (length x ≡ 512) × (x ≡ block_of (take u x)) × (take u x ≡ take u d)
+first_block d x u h e f =
+    let a : take u x ≡ take u d = ap (λ (l : List ℕ). take u l) f ∙ take-take u 512 d (omega arith) in
+    let w : length (take u d) ≤ 508 = simp length-take (omega arith) in
+    (ap length (f ∙ e) ∙ length_block (take u d) w, f ∙ e ∙ ap block_of (sym a), a)

@@ -22,7 +22,7 @@ pub enum Refusal {
 }
 
 impl Refusal {
-    // The number under which the refusal is told.
+    // The number under which the refusal is told: callers and documents tell it by these numbers, which the rules fix.
     pub fn number(self) -> u8
         ensures { result ≡ number_of self }
     {
@@ -43,7 +43,7 @@ impl From<SinkFault> for Refusal {
 }
 
 // What comes back where a sink is not opened: why, and the memory as it was.
-#[derive(Drop)]
+#[derive(Debug, Drop)]
 pub struct Unopened {
     pub refusal: Refusal,
     pub bytes: Vec<u8>,

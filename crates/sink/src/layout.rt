@@ -1,98 +1,85 @@
 // How a text is written into blocks and found in them.
-ghost use Rattle.std.specs.Prelude.{◌≡◌, ℕ, ◌+◌, ◌-◌, ◌*◌, ◌<◌, ◌≤◌, List, ◌++◌, length, take, drop, replicate, MatchBool, MatchOption, ◌≢◌, slice_index};
+ghost use Rattle.std.specs.Prelude.{◌≡◌, ℕ, ◌+◌, ◌-◌, ◌*◌, ◌/◌, ◌<◌, ◌≤◌, List, ◌++◌, length, take, drop, replicate, All, IsTrue, ◌↔◌, MatchOption, ◌≢◌};
+ghost use Rattle.std.specs.List.{concat};
 ghost use Rattle.sink.specs.Layout.{block_of, encode, texts};
 
 use crate::check::check_of;
 
+// A block: its first 508 bytes are for text.
+pub(crate) type Block = [u8; 512];
+
 // Writes the count and the check of a block whose text stands.
-fn seal(dst: &mut [u8], count: usize)
-    requires whole { length dst.old ≡ 512 }
+fn seal(block: &mut Block, count: usize)
     requires fits { count ≤ 508 }
-    requires text { take 508 dst.old ≡ take count dst.old ++ replicate (508 - count) 0 }
-    ensures { dst.new ≡ block_of (take count dst.old) }
+    requires text { take 508 block.old ≡ take count block.old ++ replicate (508 - count) 0 }
+    ensures { block.new ≡ block_of (take count block.old) }
 {
-    dst[508] = (count / 256) as u8;
-    dst[509] = (count % 256) as u8;
-    let (sum, run) = check_of(&dst[0..510]);
-    dst[510] = sum;
-    dst[511] = run;
+    let [high, low] = (count as u16).to_be_bytes();
+    block[508] = high;
+    block[509] = low;
+    let (sum, run) = check_of(block);
+    block[510] = sum;
+    block[511] = run;
 }
 
-// Adds text to a block that holds `used` bytes of it.
-pub(crate) fn add_text(dst: &mut [u8], used: usize, text: &[u8])
-    requires whole { length dst.old ≡ 512 }
-    requires sound { dst.old ≡ block_of (take used dst.old) }
+// Adds text to the first of the blocks, which holds `used` bytes of it.
+fn add_text(bytes: &mut [u8], used: usize, text: &[u8])
+    requires sound { take 512 bytes.old ≡ block_of (take used bytes.old) }
     requires room { used + length text.now ≤ 508 }
-    ensures { dst.new ≡ block_of (take used dst.old ++ text.now) }
+    ensures { bytes.new ≡ block_of (take used bytes.old ++ text.now) ++ drop 512 bytes.old }
 {
+    let block: &mut Block = bytes.first_chunk_mut().unwrap();
     let end = used + text.len();
-    dst[used..end].copy_from_slice(text);
-    seal(dst, end);
+    block[used..end].copy_from_slice(text);
+    seal(block, end);
 }
 
-// Adds text to blocks that hold `held` bytes of it.
-pub(crate) fn add_all(dst: &mut [u8], blocks: usize, held: usize, text: &[u8])
-    requires size { length dst.old ≡ 512 * blocks }
-    requires sound { dst.old ≡ encode blocks (take held (texts blocks dst.old)) }
-    requires room { held + length text.now ≤ 508 * blocks }
-    ensures { dst.new ≡ encode blocks (take held (texts blocks dst.old) ++ text.now) }
+// Adds text to blocks that hold `held` bytes of it, and writes to no block that the text does not reach.
+// The blocks are no `&mut [Block]`: std's contract does not say what bytes end as once they were lent as that.
+pub(crate) fn add_all(bytes: &mut [u8], held: usize, text: &[u8])
+    requires sound { let n = length bytes.old / 512 in bytes.old ≡ encode n (take held (texts n bytes.old)) }
+    requires room { held + length text.now ≤ 508 * (length bytes.old / 512) }
+    ensures { let n = length bytes.old / 512 in bytes.new ≡ encode n (take held (texts n bytes.old) ++ text.now) }
 {
-    let mut done = 0;
-    while done < text.len() {
-        let at = held + done;
-        let used = at % 508;
-        let start = 512 * (at / 508);
-        let more = (508 - used).min(text.len() - done);
-        add_text(&mut dst[start..start + 512], used, &text[done..done + more]);
-        done += more;
+    let mut held = held;
+    let mut left = text;
+    while !left.is_empty() {
+        let used = held % 508;
+        let (now, later) = left.split_at(left.len().min(508 - used));
+        add_text(&mut bytes[512 * (held / 508)..], used, now);
+        held += now.len();
+        left = later;
     }
 }
 
-// Whether a part is all zeros.
-fn blank(part: &[u8]) -> bool
-    ensures { MatchBool result (part.now ≡ replicate (length part.now) 0) ((k : ℕ) × (k < length part.now) × (slice_index part.now k ≢ 0)) }
+// Whether all bytes are zero.
+fn blank(bytes: &[u8]) -> bool
+    ensures { IsTrue result ↔ All (λ byte. byte ≡ 0) bytes.now }
 {
-    for b in part {
-        if *b != 0 {
-            return false;
-        }
-    }
-    true
+    bytes.iter().all(|byte| *byte == 0)
 }
 
 // How many bytes of text a block holds, if it is sound.
-fn count_of(src: &[u8]) -> Option<usize>
-    requires { length src.now ≡ 512 }
-    ensures { MatchOption result ((u : List ℕ) → length u ≤ 508 → src.now ≢ block_of u) (λ k. (k ≤ 508) × (src.now ≡ block_of (take k src.now))) }
+fn count_of(block: &Block) -> Option<usize>
+    ensures { MatchOption result ((u : List ℕ) → length u ≤ 508 → block.now ≢ block_of u) (λ k. (k ≤ 508) × (block.now ≡ block_of (take k block.now))) }
 {
-    let count = usize::from(src[508]) * 256 + usize::from(src[509]);
-    if count > 508 {
-        return None;
-    }
-    if !blank(&src[count..508]) {
-        return None;
-    }
-    let (sum, run) = check_of(&src[0..510]);
-    if sum != src[510] {
-        return None;
-    }
-    if run != src[511] {
+    let count = usize::from(u16::from_be_bytes([block[508], block[509]]));
+    let check = (block[510], block[511]);
+    if count > 508 || !blank(&block[count..508]) || check_of(block) != check {
         return None;
     }
     Some(count)
 }
 
 // How many bytes of text the blocks hold, if they are sound, and each is filled before the next is used.
-pub(crate) fn held_of(src: &[u8], blocks: usize) -> Option<usize>
-    requires { length src.now ≡ 512 * blocks }
-    ensures { MatchOption result ((t : List ℕ) → length t ≤ 508 * blocks → src.now ≢ encode blocks t) (λ k. (k ≤ 508 * blocks) × (src.now ≡ encode blocks (take k (texts blocks src.now)))) }
+pub(crate) fn held_of(blocks: &[Block]) -> Option<usize>
+    ensures { let n = length blocks.now in let bytes = concat blocks.now in MatchOption result
+        ((t : List ℕ) → length t ≤ 508 * n → bytes ≢ encode n t)
+        (λ k. (k ≤ 508 * n) × (bytes ≡ encode n (take k (texts n bytes)))) }
 {
     let mut held = 0;
-    for i in 0..blocks {
-        let start = 512 * i;
-        let Some(count) = count_of(&src[start..start + 512]) else {
-            return None;
-        };
+    for (i, block) in blocks.iter().enumerate() {
+        let count = count_of(block)?;
         if count > 0 && held < 508 * i {
             return None;
         }
@@ -102,18 +89,16 @@ pub(crate) fn held_of(src: &[u8], blocks: usize) -> Option<usize>
 }
 
 // Reads the text from `from` on, over block after block.
-pub(crate) fn read_all(src: &[u8], blocks: usize, from: usize, out: &mut [u8])
-    requires size { length src.now ≡ 512 * blocks }
-    requires within { from + length out.old ≤ 508 * blocks }
-    ensures { out.new ≡ take (length out.old) (drop from (texts blocks src.now)) }
+// What was read is counted in `done`: of memory that a loop splits off piece by piece, nothing is proved after the loop.
+pub(crate) fn read_all(blocks: &[Block], from: usize, out: &mut [u8])
+    requires { from + length out.old ≤ 508 * length blocks.now }
+    ensures { out.new ≡ take (length out.old) (drop from (texts (length blocks.now) (concat blocks.now))) }
 {
     let mut done = 0;
-    while done < out.len() {
-        let at = from + done;
-        let used = at % 508;
-        let start = 512 * (at / 508) + used;
+    for block in &blocks[from / 508..(from + out.len()).div_ceil(508)] {
+        let used = (from + done) % 508;
         let more = (508 - used).min(out.len() - done);
-        out[done..done + more].copy_from_slice(&src[start..start + more]);
+        out[done..done + more].copy_from_slice(&block[used..used + more]);
         done += more;
     }
 }

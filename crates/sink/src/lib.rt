@@ -32,7 +32,8 @@ pub trait Sink {
 }
 
 // Whether so many bytes are at most `left`; `None` is a number of bytes beyond 64 bits.
-fn within(wanted: Option<u64>, left: u64) -> Result<(), SinkFault>
+// A sink's own `put` calls it, and not `room`: a method that calls what is generic over its trait gets no proof.
+pub fn within(wanted: Option<u64>, left: u64) -> Result<(), SinkFault>
     ensures { (n : ℕ) → wanted ≡ exact n → MatchResult result (λ _. n ≤ left) (λ e. Short n left e) }
 {
     match wanted {

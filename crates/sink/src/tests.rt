@@ -2,23 +2,14 @@
 // the sum of its running values, both modulo 255.
 use crate::block_file::BlockFile;
 use crate::byte_area::ByteArea;
-use crate::fault::{Refusal, SinkFault};
+use crate::fault::{Refusal, SinkFault, Unopened};
 use crate::{Sink, room};
-use std::alloc::Global;
 use std::process::Abort;
 use std::test::Fail;
 
-// Opens bytes that are a block file.
-fn opened(bytes: Vec<u8>) -> Result<BlockFile, Fail> {
-    match BlockFile::open(bytes) {
-        Ok(file) => Ok(file),
-        Err(unopened) => Err(Fail::new(unopened.refusal.number())),
-    }
-}
-
 // Two blocks of zeros but for some bytes, each with its place.
-fn blocks(heap: Global, bytes: &[(usize, u8)]) -> Result<Vec<u8>, Fail> {
-    let mut all = vec![in heap; 0; 1024]?;
+fn blocks(rt: &impl AllocGlobal, bytes: &[(usize, u8)]) -> Result<Vec<u8>, Fail> {
+    let mut all = vec![in rt.alloc(); 0; 1024]?;
     for (at, byte) in bytes {
         if let Some(place) = all.get_mut(*at) {
             *place = *byte;
@@ -27,23 +18,34 @@ fn blocks(heap: Global, bytes: &[(usize, u8)]) -> Result<Vec<u8>, Fail> {
     Ok(all)
 }
 
-// Checks that the bytes are not opened, and come back as they were; a failure tells what was wrong with them.
-fn unopened(rt: &impl Abort, bytes: Vec<u8>, why: Refusal, wrong: &str) -> Result<(), Fail> {
-    let same = bytes.clone()?;
-    match BlockFile::open(bytes) {
+// Checks why bytes were not opened, and that they come back as they were; a failure tells what was wrong with them.
+fn came_back<T: Drop>(
+    rt: &impl Abort,
+    opened: Result<T, Unopened>,
+    same: &Vec<u8>,
+    why: Refusal,
+    wrong: &str,
+) -> Result<(), Fail> {
+    match opened {
         Ok(_) => Err(Fail::new("opened")),
         Err(unopened) => {
             assert_eq!(rt; unopened.refusal, why, "{wrong}, {} bytes", same.len());
-            assert!(rt; unopened.bytes == same, "{wrong}, {} bytes", same.len());
+            assert!(rt; unopened.bytes == *same, "{wrong}, {} bytes", same.len());
             Ok(())
         }
     }
 }
 
+// Checks that the bytes are no block file.
+fn unopened(rt: &impl Abort, bytes: Vec<u8>, why: Refusal, wrong: &str) -> Result<(), Fail> {
+    let same = bytes.clone()?;
+    came_back(rt, BlockFile::open(bytes), &same, why, wrong)
+}
+
 // Checks what the file holds.
-fn holds(rt: &impl Abort, heap: Global, file: &BlockFile, text: &[u8]) -> Result<(), Fail> {
+fn holds(rt: &(impl Abort + AllocGlobal), file: &BlockFile, text: &[u8]) -> Result<(), Fail> {
     assert_eq!(rt; file.len(), text.len());
-    let mut out = vec![in heap; 0; text.len()]?;
+    let mut out = vec![in rt.alloc(); 0; text.len()]?;
     assert_eq!(rt; file.read(0, out.as_mut_slice()), text.len());
     assert!(rt; out.as_slice() == text);
     Ok(())
@@ -52,46 +54,43 @@ fn holds(rt: &impl Abort, heap: Global, file: &BlockFile, text: &[u8]) -> Result
 // Puts `held` bytes `a` into two blocks, at once and byte by byte: `left` are left then, and the blocks end in `first` and
 // `second`, each a count and a check. Opened again, they hold the text.
 fn stands(
-    rt: &impl Abort,
-    heap: Global,
+    rt: &(impl Abort + AllocGlobal),
     held: usize,
     left: u64,
     first: &[u8],
     second: &[u8],
 ) -> Result<(), Fail> {
-    let text = vec![in heap; b'a'; held]?;
-    let mut file = opened(blocks(heap, &[])?)?;
+    let text = vec![in rt.alloc(); b'a'; held]?;
+    let mut file = BlockFile::open(blocks(rt, &[])?)?;
     file.put(text.as_slice())?;
-    let mut slow = opened(blocks(heap, &[])?)?;
+    let mut slow = BlockFile::open(blocks(rt, &[])?)?;
     for byte in text.iter() {
         slow.put(&[*byte])?;
     }
     assert_eq!(rt; file.bytes_left(), left);
-    holds(rt, heap, &file, text.as_slice())?;
+    holds(rt, &file, text.as_slice())?;
     let bytes = file.into_bytes();
     assert!(rt; bytes == slow.into_bytes());
     assert_eq!(rt; bytes.get(508..512), Some(first));
     assert_eq!(rt; bytes.get(1020..1024), Some(second));
-    holds(rt, heap, &opened(bytes)?, text.as_slice())
+    holds(rt, &BlockFile::open(bytes)?, text.as_slice())
 }
 
 #[test]
 fn counts_and_checks(rt: HostRuntime) -> Result<(), Fail> {
-    let heap = rt.alloc();
-    stands(&rt, heap, 0, 1016, &[0, 0, 0, 0], &[0, 0, 0, 0])?;
-    stands(&rt, heap, 1, 1015, &[0, 1, 98, 1], &[0, 0, 0, 0])?;
-    stands(&rt, heap, 507, 509, &[1, 251, 216, 181], &[0, 0, 0, 0])?;
-    stands(&rt, heap, 508, 508, &[1, 252, 59, 218], &[0, 0, 0, 0])?;
-    stands(&rt, heap, 509, 507, &[1, 252, 59, 218], &[0, 1, 98, 1])?;
-    stands(&rt, heap, 1016, 0, &[1, 252, 59, 218], &[1, 252, 59, 218])
+    stands(&rt, 0, 1016, &[0, 0, 0, 0], &[0, 0, 0, 0])?;
+    stands(&rt, 1, 1015, &[0, 1, 98, 1], &[0, 0, 0, 0])?;
+    stands(&rt, 507, 509, &[1, 251, 216, 181], &[0, 0, 0, 0])?;
+    stands(&rt, 508, 508, &[1, 252, 59, 218], &[0, 0, 0, 0])?;
+    stands(&rt, 509, 507, &[1, 252, 59, 218], &[0, 1, 98, 1])?;
+    stands(&rt, 1016, 0, &[1, 252, 59, 218], &[1, 252, 59, 218])
 }
 
 #[test]
 fn no_more_than_is_left(rt: HostRuntime) -> Result<(), Fail> {
-    let heap = rt.alloc();
-    let mut file = opened(blocks(heap, &[])?)?;
-    file.put(vec![in heap; b'a'; 1014]?.as_slice())?;
-    let before = file.bytes().to_vec(heap)?;
+    let mut file = BlockFile::open(blocks(&rt, &[])?)?;
+    file.put(vec![in rt.alloc(); b'a'; 1014]?.as_slice())?;
+    let before = file.bytes().to_vec(rt.alloc())?;
     assert_eq!(rt; file.put(b"abc"), Err(SinkFault { wanted: 3, left: 2 }));
     assert!(rt; file.bytes() == before.as_slice());
     file.put(b"ab")?;
@@ -103,9 +102,8 @@ fn no_more_than_is_left(rt: HostRuntime) -> Result<(), Fail> {
 
 #[test]
 fn reads_a_part(rt: HostRuntime) -> Result<(), Fail> {
-    let heap = rt.alloc();
-    let mut file = opened(blocks(heap, &[])?)?;
-    file.put(vec![in heap; b'a'; 506]?.as_slice())?;
+    let mut file = BlockFile::open(blocks(&rt, &[])?)?;
+    file.put(vec![in rt.alloc(); b'a'; 506]?.as_slice())?;
     file.put(b"bcde")?;
     let mut out = [b'-'; 6];
     assert_eq!(rt; file.read(505, &mut out), 5);
@@ -120,19 +118,18 @@ fn reads_a_part(rt: HostRuntime) -> Result<(), Fail> {
 
 #[test]
 fn other_sizes(rt: HostRuntime) -> Result<(), Fail> {
-    let heap = rt.alloc();
     for size in [0, 511, 513, 1_049_088] {
-        unopened(&rt, vec![in heap; 0; size]?, Refusal::Size, "the size")?;
+        let bytes = vec![in rt.alloc(); 0; size]?;
+        unopened(&rt, bytes, Refusal::Size, "the size")?;
     }
     Ok(())
 }
 
 #[test]
 fn zeros_are_empty(rt: HostRuntime) -> Result<(), Fail> {
-    let heap = rt.alloc();
-    let one = opened(vec![in heap; 0; 512]?)?;
+    let one = BlockFile::open(vec![in rt.alloc(); 0; 512]?)?;
     assert_eq!(rt; (one.len(), one.blocks(), one.bytes_left()), (0, 1, 508));
-    let most = opened(vec![in heap; 0; 1_048_576]?)?;
+    let most = BlockFile::open(vec![in rt.alloc(); 0; 1_048_576]?)?;
     assert_eq!(rt;
         (most.len(), most.blocks(), most.bytes_left()),
         (0, 2048, 1_040_384)
@@ -142,60 +139,45 @@ fn zeros_are_empty(rt: HostRuntime) -> Result<(), Fail> {
 
 #[test]
 fn damaged(rt: HostRuntime) -> Result<(), Fail> {
-    let heap = rt.alloc();
     // The block that holds `a` stands first, or after an empty one.
     let first = [(0, 97), (509, 1), (510, 98), (511, 1)];
     let second = [(512, 97), (1021, 1), (1022, 98), (1023, 1)];
-    holds(&rt, heap, &opened(blocks(heap, &first)?)?, b"a")?;
-    unopened(&rt, blocks(heap, &second)?, Refusal::Damaged, "a gap")?;
-    unopened(&rt, blocks(heap, &[(510, 1)])?, Refusal::Damaged, "the sum")?;
+    holds(&rt, &BlockFile::open(blocks(&rt, &first)?)?, b"a")?;
+    unopened(&rt, blocks(&rt, &second)?, Refusal::Damaged, "a gap")?;
+    unopened(&rt, blocks(&rt, &[(510, 1)])?, Refusal::Damaged, "the sum")?;
     unopened(
         &rt,
-        blocks(heap, &[(1023, 1)])?,
+        blocks(&rt, &[(1023, 1)])?,
         Refusal::Damaged,
         "the running sum",
     )?;
     // A count of 509, and a byte that no count covers: their checks are right.
     let count = [(508, 1), (509, 253), (510, 254), (511, 0)];
-    unopened(&rt, blocks(heap, &count)?, Refusal::Damaged, "the count")?;
+    unopened(&rt, blocks(&rt, &count)?, Refusal::Damaged, "the count")?;
     let unused = [(507, 1), (510, 1), (511, 3)];
     unopened(
         &rt,
-        blocks(heap, &unused)?,
+        blocks(&rt, &unused)?,
         Refusal::Damaged,
         "an unused byte",
     )
 }
 
-// Opens memory that has the size of a byte area.
-fn area(bytes: Vec<u8>) -> Result<ByteArea, Fail> {
-    match ByteArea::open(bytes) {
-        Ok(area) => Ok(area),
-        Err(unopened) => Err(Fail::new(unopened.refusal.number())),
-    }
-}
-
 #[test]
 fn area_sizes(rt: HostRuntime) -> Result<(), Fail> {
-    let heap = rt.alloc();
-    assert_eq!(rt; area(vec![in heap; 9; 0]?)?.bytes_left(), 0);
-    assert_eq!(rt; area(vec![in heap; 9; 1_048_576]?)?.bytes_left(), 1_048_576);
-    let more = vec![in heap; 9; 1_048_577]?;
+    assert_eq!(rt; ByteArea::open(vec![in rt.alloc(); 9; 0]?)?.bytes_left(), 0);
+    assert_eq!(rt;
+        ByteArea::open(vec![in rt.alloc(); 9; 1_048_576]?)?.bytes_left(),
+        1_048_576
+    );
+    let more = vec![in rt.alloc(); 9; 1_048_577]?;
     let same = more.clone()?;
-    match ByteArea::open(more) {
-        Ok(_) => Err(Fail::new("opened")),
-        Err(unopened) => {
-            assert_eq!(rt; unopened.refusal, Refusal::Size);
-            assert!(rt; unopened.bytes == same);
-            Ok(())
-        }
-    }
+    came_back(&rt, ByteArea::open(more), &same, Refusal::Size, "the size")
 }
 
 #[test]
 fn area_takes(rt: HostRuntime) -> Result<(), Fail> {
-    let heap = rt.alloc();
-    let mut area = area(vec![in heap; 9; 5]?)?;
+    let mut area = ByteArea::open(vec![in rt.alloc(); 9; 5]?)?;
     area.put(b"ab")?;
     assert_eq!(rt; area.put(b"cdef"), Err(SinkFault { wanted: 4, left: 3 }));
     assert_eq!(rt; area.held_bytes(), b"ab".as_slice());
@@ -207,8 +189,7 @@ fn area_takes(rt: HostRuntime) -> Result<(), Fail> {
 
 #[test]
 fn area_full(rt: HostRuntime) -> Result<(), Fail> {
-    let heap = rt.alloc();
-    let mut area = area(vec![in heap; 9; 3]?)?;
+    let mut area = ByteArea::open(vec![in rt.alloc(); 9; 3]?)?;
     assert_eq!(rt; room(&area, Some(3)), Ok(()));
     assert_eq!(rt; room(&area, Some(4)), Err(SinkFault { wanted: 4, left: 3 }));
     assert_eq!(rt;

@@ -1,7 +1,5 @@
 // A map with three places: entries come, are replaced and go, and the places that are set free are cleared.
-ghost use Rattle.std.specs.Prelude.{ℕ, ◌==◌};
-ghost use Rattle.std.specs.Cmp.{unsigned_Decides};
-ghost use Rattle.std.proofs.Common.{ap, rules};
+ghost use Rattle.std.proofs.Common.{rules};
 
 use flat_map::{FlatMap, Full, Key};
 use std::process::Abort;
@@ -11,14 +9,7 @@ use std::test::Fail;
 struct Id(u8);
 
 impl Key for Id {
-    ghost same = { λ x y. x.0 == y.0 };
-
-    ghost told = { Prim.search rules };
-
-    ghost exact = { λ x y. (
-      λ h. ap (λ (n : ℕ). record { 0 = n }) ((unsigned_Decides x.0 y.0).0 h),
-      λ e. (unsigned_Decides x.0 y.0).1 (ap (λ i. i.0) e),
-    ) };
+    ghost exact = { Prim.search rules };
 }
 
 // Adds three entries, of which the first is then replaced; a fourth finds no place.

@@ -1,6 +1,4 @@
 // Packed lists: lengths around the bounds of one and of two bytes, and every way to cut a list short.
-use std::alloc::Global;
-use std::process::Abort;
 use std::test::Fail;
 use util::packed::{Items, PackError, count_items, is_well_formed, items_are_text, push_item};
 use util::text::is_text;
@@ -21,22 +19,21 @@ fn holds_one(list: &[u8], high: u8, low: u8, item: &[u8]) -> bool {
         && items_are_text(list)
 }
 
-fn one_item(rt: &impl Abort, heap: Global, n: usize, high: u8, low: u8) -> Result<(), Fail> {
-    let item = vec![in heap; b'x'; n]?;
-    let mut list = Vec::new(heap);
-    push_item(&mut list, &item)?;
-    assert!(rt; holds_one(&list, high, low, &item));
-    Ok(())
-}
-
 #[test]
 fn lengths(rt: HostRuntime) -> Result<(), Fail> {
-    let heap = rt.alloc();
-    one_item(&rt, heap, 0, 0x00, 0x00)?;
-    one_item(&rt, heap, 1, 0x00, 0x01)?;
-    one_item(&rt, heap, 255, 0x00, 0xff)?;
-    one_item(&rt, heap, 256, 0x01, 0x00)?;
-    one_item(&rt, heap, 65535, 0xff, 0xff)
+    for (n, high, low) in [
+        (0, 0x00, 0x00),
+        (1, 0x00, 0x01),
+        (255, 0x00, 0xff),
+        (256, 0x01, 0x00),
+        (65535, 0xff, 0xff),
+    ] {
+        let item = vec![in rt.alloc(); b'x'; n]?;
+        let mut list = Vec::new(rt.alloc());
+        push_item(&mut list, &item)?;
+        assert!(rt; holds_one(&list, high, low, &item), "{n} bytes");
+    }
+    Ok(())
 }
 
 // An item that is too long is refused, and the list stays.
@@ -67,12 +64,22 @@ fn three_items(rt: HostRuntime) -> Result<(), Fail> {
 // Of that list, which is nine bytes long, the cuts after 0, 4, 6 and 9 bytes are well formed.
 #[test]
 fn cuts(rt: HostRuntime) -> Result<(), Fail> {
-    let counts = [0usize, 0, 0, 0, 1, 1, 2, 2, 2, 3];
-    for (n, count) in counts.iter().enumerate() {
-        let part = LIST.get(0..n).ok_or("short")?;
+    for (n, count, whole) in [
+        (0, 0, true),
+        (1, 0, false),
+        (2, 0, false),
+        (3, 0, false),
+        (4, 1, true),
+        (5, 1, false),
+        (6, 2, true),
+        (7, 2, false),
+        (8, 2, false),
+        (9, 3, true),
+    ] {
+        let part = LIST.get(..n).ok_or("short")?;
         assert!(rt;
-            count_items(part) == *count
-                && is_well_formed(part) == (n == 0 || n == 4 || n == 6 || n == 9)
+            count_items(part) == count && is_well_formed(part) == whole,
+            "{n} bytes"
         );
     }
     Ok(())

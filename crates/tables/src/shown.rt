@@ -12,10 +12,8 @@ const BESIDE: &[u8] =
 // Whether the shown form goes into memory of n bytes.
 fn fits(value: &[u8], n: usize) -> bool {
     let mut out = [0u8; 32];
-    match out.get_mut(0..n) {
-        Some(part) => Escape(value).write_shown(part).is_some(),
-        None => false,
-    }
+    out.get_mut(0..n)
+        .is_some_and(|part| Escape(value).write_shown(part).is_some())
 }
 
 // Adds the shown form of `value` as a line. It goes into memory of its length, and not into less.
@@ -30,24 +28,26 @@ fn add_line(rt: &impl Abort, lines: &mut Vec<u8>, value: &[u8]) -> Result<(), Fa
     Ok(())
 }
 
-#[test]
-fn every_byte_alone(rt: HostRuntime) -> Result<(), Fail> {
+// Checks the shown forms of every text byte behind these bytes, a line each.
+fn every_byte(rt: &(impl Abort + AllocGlobal), before: &[u8], expected: &[u8]) -> Result<(), Fail> {
     let mut lines = Vec::new(rt.alloc());
     for b in 0..128u8 {
-        add_line(&rt, &mut lines, &[b])?;
+        let mut value = before.to_vec(rt.alloc())?;
+        value.push(b)?;
+        add_line(rt, &mut lines, &value)?;
     }
-    assert!(rt; lines.as_slice() == ALONE);
+    assert!(rt; lines.as_slice() == expected);
     Ok(())
 }
 
 #[test]
+fn every_byte_alone(rt: HostRuntime) -> Result<(), Fail> {
+    every_byte(&rt, b"", ALONE)
+}
+
+#[test]
 fn every_byte_after_a_blank(rt: HostRuntime) -> Result<(), Fail> {
-    let mut lines = Vec::new(rt.alloc());
-    for b in 0..128u8 {
-        add_line(&rt, &mut lines, &[b' ', b])?;
-    }
-    assert!(rt; lines.as_slice() == BESIDE);
-    Ok(())
+    every_byte(&rt, b" ", BESIDE)
 }
 
 // The empty value is quoted, and a value that has quotes of its own is not, unless it has a blank.

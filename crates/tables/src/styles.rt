@@ -1,6 +1,7 @@
 // Styles: the marks of each of the 36, and the standard colours. A mark is 1B 5B n 6D, with 1 for bold, 4 for underline and 30 to 37 for a colour.
-use builder::styled_str::{push_styled, styled_len};
+use builder::styled_str::{StyledStr, put_styled, styled_len};
 use builder::styling::{AnsiColor, Style, Styles};
+use sink::Sink;
 use std::test::Fail;
 
 // Plain, then the eight colours; so for not bold and bold, each not underlined and underlined.
@@ -44,13 +45,22 @@ fn all_marks(rt: HostRuntime) -> Result<(), Fail> {
 fn shows(style: Style, bytes: &[u8]) -> bool {
     let mut out = [0u8; 20];
     let n = bytes.len();
-    if n > 20
-        || styled_len(style, b"word") != Some(n)
-        || push_styled(&mut out[0..n], 0, style, b"word") != Some(n)
-    {
+    if n > 20 || styled_len(style, b"word") != Some(n as u64) {
         return false;
     }
-    &out[0..n] == bytes && push_styled(&mut out[0..n], 1, style, b"word").is_none()
+    let mut pushed = StyledStr::new(&mut out[..n]);
+    if pushed.push_styled(style, b"word").is_err() || pushed.as_bytes() != bytes {
+        return false;
+    }
+    let mut put = StyledStr::new(&mut out[..n]);
+    if put_styled(style, b"word", &mut put).is_err() || put.as_bytes() != bytes {
+        return false;
+    }
+    let mut short = StyledStr::new(&mut out[..n]);
+    short.put(b" ").is_ok()
+        && short.push_styled(style, b"word").is_err()
+        && put_styled(style, b"word", &mut short).is_err()
+        && short.as_bytes() == b" ".as_slice()
 }
 
 #[test]

@@ -3,18 +3,21 @@ use builder::styling::{AnsiColor, Style, Styles};
 use sheet::Sheet;
 use sheet::fault::SheetFault;
 use sheet::page::Page;
+use sheet::part::Part;
 use sheet::role::Role;
 use sheet::tag::Tag;
 use sheet::terminal::Terminal;
 use sink::Sink;
 use sink::byte_area::ByteArea;
 use sink::fault::SinkFault;
-use std::alloc::Global;
 use std::process::Abort;
 use std::test::Fail;
 
-// What stands before and after a text of each role: on a terminal in the standard colours, on a tag sheet and on a page.
-const FRAMES: [(Role, (&[u8], &[u8]), (&[u8], &[u8]), (&[u8], &[u8])); 7] = [
+// What stands before a text and after it.
+type Frame<'a> = (&'a [u8], &'a [u8]);
+
+// The frame of each role: on a terminal in the standard colours, on a tag sheet and on a page.
+const FRAMES: [(Role, Frame<'static>, Frame<'static>, Frame<'static>); 7] = [
     (
         Role::Error,
         (b"\x1b[1m\x1b[31m", b"\x1b[0m"),
@@ -74,12 +77,14 @@ const TEXTS: [(&[u8], &[u8], &[u8]); 16] = [
     (b"\x1f ~\x80", b"\x1f ~\x80", b"<s>1f</s> ~\x80"),
 ];
 
+// A part of that role.
+pub(crate) fn part(role: Role, text: &[u8]) -> Part<'_> {
+    Part { role, text }
+}
+
 // An area of so many bytes.
-pub(crate) fn area(heap: Global, len: usize) -> Result<ByteArea, Fail> {
-    match ByteArea::open(vec![in heap; 9; len]?) {
-        Ok(area) => Ok(area),
-        Err(unopened) => Err(Fail::new(unopened.refusal.number())),
-    }
+pub(crate) fn area(rt: &impl AllocGlobal, len: usize) -> Result<ByteArea, Fail> {
+    Ok(ByteArea::open(vec![in rt.alloc(); 9; len]?)?)
 }
 
 // Checks that a print that wanted one byte more than was left was refused for that, and that the area still holds `held` and no more.
@@ -96,70 +101,59 @@ pub(crate) fn refused(
     assert_eq!(rt; (area.held_bytes(), area.bytes_left()), (held, left));
 }
 
-// Checks that the sheet shows the text as these bytes and tells their length, and that it puts nothing into an area of one byte less.
+// Checks that the sheet shows the part as these bytes and tells their length, and that it puts nothing into an area of one byte less.
 fn shows<S: Sheet>(
-    rt: &impl Abort,
-    heap: Global,
+    rt: &(impl Abort + AllocGlobal),
     sheet: &S,
-    role: Role,
-    text: &[u8],
+    part: Part<'_>,
     shown: &[u8],
 ) -> Result<(), Fail> {
     let len = shown.len() as u64;
-    assert_eq!(rt;
-        (sheet.measure(role, text), sheet.width(role, text)),
-        (Some(len), len)
-    );
-    let mut whole = area(heap, shown.len())?;
-    assert_eq!(rt; sheet.print(role, text, &mut whole), Ok(()));
+    assert_eq!(rt; (sheet.measure(part), sheet.width(part)), (Some(len), len));
+    let mut whole = area(rt, shown.len())?;
+    assert_eq!(rt; sheet.print(part, &mut whole), Ok(()));
     assert_eq!(rt; (whole.held_bytes(), whole.bytes_left()), (shown, 0));
     if shown.is_empty() {
         return Ok(());
     }
-    let mut short = area(heap, shown.len().saturating_sub(1))?;
-    let done = sheet.print(role, text, &mut short);
+    let mut short = area(rt, shown.len().saturating_sub(1))?;
+    let done = sheet.print(part, &mut short);
     refused(rt, done, len, &short, b"");
     Ok(())
 }
 
+// The three, one after the other.
 pub(crate) fn joined(
-    heap: Global,
+    rt: &impl AllocGlobal,
     before: &[u8],
     text: &[u8],
     after: &[u8],
 ) -> Result<Vec<u8>, Fail> {
-    let mut all = before.to_vec(heap)?;
+    let mut all = before.to_vec(rt.alloc())?;
     all.extend_from_slice(text)?;
     all.extend_from_slice(after)?;
     Ok(all)
 }
 
-// Checks that the sheet shows the text as these bytes between the two of the frame.
+// Checks that the sheet shows the part as these bytes between the two of the frame.
 fn framed<S: Sheet>(
-    rt: &impl Abort,
-    heap: Global,
+    rt: &(impl Abort + AllocGlobal),
     sheet: &S,
-    role: Role,
-    text: &[u8],
+    part: Part<'_>,
     coded: &[u8],
-    frame: (&[u8], &[u8]),
+    (before, after): Frame<'_>,
 ) -> Result<(), Fail> {
-    shows(
-        rt,
-        heap,
-        sheet,
-        role,
-        text,
-        &joined(heap, frame.0, coded, frame.1)?,
-    )
+    shows(rt, sheet, part, &joined(rt, before, coded, after)?)
 }
 
+// A terminal without styles.
 pub(crate) fn plain() -> Terminal {
     Terminal {
         styles: Styles::plain(),
     }
 }
 
+// A terminal in the standard colours.
 pub(crate) fn standard() -> Terminal {
     Terminal {
         styles: Styles::styled(),
@@ -168,13 +162,13 @@ pub(crate) fn standard() -> Terminal {
 
 #[test]
 fn roles_and_texts(rt: HostRuntime) -> Result<(), Fail> {
-    let heap = rt.alloc();
     for (role, colors, marks, tags) in FRAMES {
         for (text, tagged, paged) in TEXTS {
-            shows(&rt, heap, &plain(), role, text, text)?;
-            framed(&rt, heap, &standard(), role, text, text, colors)?;
-            framed(&rt, heap, &Tag, role, text, tagged, marks)?;
-            framed(&rt, heap, &Page, role, text, paged, tags)?;
+            let part = part(role, text);
+            shows(&rt, &plain(), part, text)?;
+            framed(&rt, &standard(), part, text, colors)?;
+            framed(&rt, &Tag, part, tagged, marks)?;
+            framed(&rt, &Page, part, paged, tags)?;
         }
     }
     Ok(())
@@ -203,24 +197,23 @@ const PAGED: [(Role, &[u8], &[u8]); 4] = [
     (Role::Ready, b"\x1b[1mb", b"<samp><s>1b</s>[1mb</samp>"),
 ];
 
+// Checks that the sheet shows each part as the bytes beside it.
 fn all_show<S: Sheet>(
-    rt: &impl Abort,
-    heap: Global,
+    rt: &(impl Abort + AllocGlobal),
     sheet: &S,
     rows: &[(Role, &[u8], &[u8])],
 ) -> Result<(), Fail> {
     for (role, text, shown) in rows {
-        shows(rt, heap, sheet, *role, text, shown)?;
+        shows(rt, sheet, part(*role, text), shown)?;
     }
     Ok(())
 }
 
 #[test]
 fn whole_showings(rt: HostRuntime) -> Result<(), Fail> {
-    let heap = rt.alloc();
-    all_show(&rt, heap, &standard(), &STANDARD)?;
-    all_show(&rt, heap, &Tag, &TAGGED)?;
-    all_show(&rt, heap, &Page, &PAGED)
+    all_show(&rt, &standard(), &STANDARD)?;
+    all_show(&rt, &Tag, &TAGGED)?;
+    all_show(&rt, &Page, &PAGED)
 }
 
 // The bytes 00 to 7F on a tag sheet and on a page.
@@ -232,14 +225,11 @@ const EVERY_BYTE_PAGED: &[u8] =
 
 #[test]
 fn every_byte(rt: HostRuntime) -> Result<(), Fail> {
-    let heap = rt.alloc();
-    let mut text = Vec::new(heap);
-    for b in 0..128u8 {
-        text.push(b)?;
-    }
-    shows(&rt, heap, &standard(), Role::Fixed, &text, &text)?;
-    shows(&rt, heap, &Tag, Role::Fixed, &text, EVERY_BYTE_TAGGED)?;
-    shows(&rt, heap, &Page, Role::Fixed, &text, EVERY_BYTE_PAGED)
+    let text: Vec<u8> = (0..128u8).collect(rt.alloc())?;
+    let part = part(Role::Fixed, &text);
+    shows(&rt, &standard(), part, &text)?;
+    shows(&rt, &Tag, part, EVERY_BYTE_TAGGED)?;
+    shows(&rt, &Page, part, EVERY_BYTE_PAGED)
 }
 
 // The mark of each colour, and those of bold and underlined texts.
@@ -261,38 +251,29 @@ const UNDERLINE: &[u8] = b"\x1b[4m";
 
 // Checks how the terminal shows `x` as a literal in the style, which has these marks; the other roles are plain.
 fn styled(
-    rt: &impl Abort,
-    heap: Global,
+    rt: &(impl Abort + AllocGlobal),
     style: Style,
     bold: &[u8],
     underline: &[u8],
     color: &[u8],
 ) -> Result<(), Fail> {
-    let marks = joined(heap, bold, underline, color)?;
+    let marks = joined(rt, bold, underline, color)?;
     let after: &[u8] = if marks.is_empty() { b"" } else { b"\x1b[0m" };
     let sheet = Terminal {
         styles: Styles::plain().literal(style),
     };
-    shows(
-        rt,
-        heap,
-        &sheet,
-        Role::Literal,
-        b"x",
-        &joined(heap, &marks, b"x", after)?,
-    )?;
-    shows(rt, heap, &sheet, Role::Error, b"x", b"x")
+    framed(rt, &sheet, part(Role::Literal, b"x"), b"x", (&marks, after))?;
+    shows(rt, &sheet, part(Role::Error, b"x"), b"x")
 }
 
 #[test]
 fn every_style(rt: HostRuntime) -> Result<(), Fail> {
-    let heap = rt.alloc();
     for (color, mark) in COLORS {
         let style = Style::new().fg_color(color);
-        styled(&rt, heap, style, b"", b"", mark)?;
-        styled(&rt, heap, style.bold(), BOLD, b"", mark)?;
-        styled(&rt, heap, style.underline(), b"", UNDERLINE, mark)?;
-        styled(&rt, heap, style.bold().underline(), BOLD, UNDERLINE, mark)?;
+        styled(&rt, style, b"", b"", mark)?;
+        styled(&rt, style.bold(), BOLD, b"", mark)?;
+        styled(&rt, style.underline(), b"", UNDERLINE, mark)?;
+        styled(&rt, style.bold().underline(), BOLD, UNDERLINE, mark)?;
     }
     Ok(())
 }

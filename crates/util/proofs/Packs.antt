@@ -1,47 +1,44 @@
 -- Packing and unpacking undo each other.
-use Rattle.std.proofs.Common.{◌≡◌, ℕ, zero, suc, ◌+◌, ◌/◌, ◌%◌, ◌<◌, ◌≤◌, List, [], ◌∷◌, ◌++◌, length, get_or, Some, None, Option, unwrap_or, sym, refl, ap, ◌∙◌, subst, append-nil, arith}
+use Rattle.std.proofs.Common.{◌≡◌, ℕ, ◌+◌, ◌/◌, ◌%◌, ◌<◌, List, [], ◌∷◌, ◌++◌, length, get_or, Some, None, Option, unwrap_or, sym, refl, ap, ◌∙◌, subst, append-nil, arith}
 use Rattle.std.proofs.lemmas.List.{get_or-append-add}
 use Rattle.std.specs.Option.{option_map}
 use Rattle.util.specs.Packed.{first_item, unpack, items, pack_item, pack}
-use Rattle.util.proofs.Unpacks.{Begins, begins, length_begins, first_packed, first_append, unpack_next, unpack_none, unpack_stop, items_next, items_stop}
+use Rattle.util.proofs.Unpacks.{Begins, begins, first_packed, first_append, unpack_next, unpack_none, unpack_stop, items_next, items_stop, by_reading}
 
 -- What holds of the empty list, and of a list if it holds of what follows its first item, holds of every well-formed list.
 by_items : (P : List ℕ → List (List ℕ) → Type 0) → P [] []
     → ((bs x y : List ℕ) (us : List (List ℕ)) → first_item bs ≡ Some (x, y) → P y us → P bs (x ∷ us))
-    → (n : ℕ) (bs : List ℕ) (ts : List (List ℕ)) → length bs ≤ n → unpack bs ≡ Some ts → P bs ts
-by_items P none more n [] ts le e =
-    let z : [] ≡ ts = ap (λ (o : Option (List (List ℕ))). unwrap_or o ts) (sym unpack_none ∙ e) in
-    subst (λ (us : List (List ℕ)). P [] us) z none
-by_items P none more zero (b ∷ bs) ts le e = absurd (omega arith)
-by_items P none more (suc n) (b ∷ bs) ts le e = at (first_item (b ∷ bs)) refl (by_items P none more n)
+    → (bs : List ℕ) (ts : List (List ℕ)) → unpack bs ≡ Some ts → P bs ts
+by_items P none more = by_reading (λ bs. (ts : List (List ℕ)) → unpack bs ≡ Some ts → P bs ts) stop next
   where
-    cons : (x y : List ℕ) → first_item (b ∷ bs) ≡ Some (x, y) → (o : Option (List (List ℕ))) → option_map (λ us. x ∷ us) o ≡ Some ts → ((us : List (List ℕ)) → o ≡ Some us → P y us) → P (b ∷ bs) ts
-    cons x y f None q again = let z : ◌≡◌ {A = ℕ} 0 1 = cc in absurd (omega arith)
-    cons x y f (Some us) q again =
-        let z : x ∷ us ≡ ts = ap (λ (o : Option (List (List ℕ))). unwrap_or o ts) q in
-        subst (λ (vs : List (List ℕ)). P (b ∷ bs) vs) z (more (b ∷ bs) x y us f (again us refl))
+    stop : (bs : List ℕ) → first_item bs ≡ None → (ts : List (List ℕ)) → unpack bs ≡ Some ts → P bs ts
+    stop [] f ts e =
+        let z : [] ≡ ts = ap (λ (o : Option (List (List ℕ))). unwrap_or o ts) (sym unpack_none ∙ e) in
+        subst (λ (us : List (List ℕ)). P [] us) z none
+    stop (b ∷ bs) f ts e = let g : unpack (b ∷ bs) ≡ None = unpack_stop b bs f in cc
 
-    at : (o : Option (List ℕ × List ℕ)) → first_item (b ∷ bs) ≡ o → ((ys : List ℕ) (us : List (List ℕ)) → length ys ≤ n → unpack ys ≡ Some us → P ys us) → P (b ∷ bs) ts
-    at None f again =
-        let g : unpack (b ∷ bs) ≡ None = unpack_stop b bs f in
-        let z : ◌≡◌ {A = ℕ} 0 1 = cc in absurd (omega arith)
-    at (Some w) f again =
-        let l = length_begins (b ∷ bs) w.0 w.1 (begins (b ∷ bs) w.0 w.1 f) in
-        cons w.0 w.1 f (unpack w.1) (sym (unpack_next (b ∷ bs) w.0 w.1 f) ∙ e) (λ us q. again w.1 us (omega arith) q)
+    cons : (bs x y : List ℕ) → first_item bs ≡ Some (x, y) → (ts : List (List ℕ)) (o : Option (List (List ℕ))) → option_map (λ us. x ∷ us) o ≡ Some ts → ((us : List (List ℕ)) → o ≡ Some us → P y us) → P bs ts
+    cons bs x y f ts None q again = cc
+    cons bs x y f ts (Some us) q again =
+        let z : x ∷ us ≡ ts = ap (λ (o : Option (List (List ℕ))). unwrap_or o ts) q in
+        subst (λ (vs : List (List ℕ)). P bs vs) z (more bs x y us f (again us refl))
+
+    next : (bs x y : List ℕ) → first_item bs ≡ Some (x, y) → ((us : List (List ℕ)) → unpack y ≡ Some us → P y us) → (ts : List (List ℕ)) → unpack bs ≡ Some ts → P bs ts
+    next bs x y f again ts e = cons bs x y f ts (unpack y) (sym (unpack_next bs x y f) ∙ e) again
 
 -- the reader gives the items of a well-formed list
 pub items_are : (bs : List ℕ) (ts : List (List ℕ)) → unpack bs ≡ Some ts → items bs ≡ ts
 items_are bs ts e =
     by_items (λ bs ts. items bs ≡ ts) (items_stop [] refl)
     (λ bs x y us f h. items_next bs x y f ∙ ap (λ (vs : List (List ℕ)). x ∷ vs) h)
-    (length bs) bs ts (omega arith) e
+    bs ts e
 
 -- of bytes, its items packed are the list
 pub pack_unpacked : (bs : List ℕ) (ts : List (List ℕ)) → ((k : ℕ) → get_or bs k 0 < 256) → unpack bs ≡ Some ts → pack ts ≡ bs
 pack_unpacked bs ts bytes e =
     by_items (λ bs ts. ((k : ℕ) → get_or bs k 0 < 256) → pack ts ≡ bs) (λ _. refl)
     (λ bs x y us f h bytes. packed bs x y us (begins bs x y f) h bytes)
-    (length bs) bs ts (omega arith) e bytes
+    bs ts e bytes
   where
     packed : (bs x y : List ℕ) (us : List (List ℕ)) → Begins bs x y → (((k : ℕ) → get_or y k 0 < 256) → pack us ≡ y) → ((k : ℕ) → get_or bs k 0 < 256) → pack (x ∷ us) ≡ bs
     packed bs x y us b h bytes =
@@ -63,7 +60,7 @@ pub unpack_append : (bs cs : List ℕ) (ts us : List (List ℕ)) → unpack bs �
 unpack_append bs cs ts us e q =
     by_items (λ bs ts. unpack (bs ++ cs) ≡ Some (ts ++ us)) q
     (λ bs x y vs f h. unpack_next (bs ++ cs) x (y ++ cs) (first_append bs x y cs f) ∙ ap (option_map (λ ws. x ∷ ws)) h)
-    (length bs) bs ts (omega arith) e
+    bs ts e
 
 -- one item more
 pub unpack_push : (bs t : List ℕ) (ts : List (List ℕ)) → unpack bs ≡ Some ts → unpack (bs ++ pack_item t) ≡ Some (ts ++ t ∷ [])

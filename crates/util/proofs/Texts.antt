@@ -1,7 +1,10 @@
--- Of text: the steps of a search for a byte that is none, and laws for those who only know the name.
-use Rattle.std.proofs.Common.{◌≡◌, ℕ, ◌+◌, ◌<◌, ◌≤◌, Bool, true, false, ◌&&◌, leb, List, [], ◌∷◌, ◌++◌, length, get_or, drop, sym, refl, ap, ◌∙◌}
-use Rattle.std.specs.List.{AllByRecursion}
-use Rattle.std.proofs.lemmas.List.{at_drop_more, at_drop_all}
+-- Of text: what the test of bytes answers, and laws for those who only know the name.
+use Rattle.std.proofs.Common.{◌≡◌, ℕ, suc, ◌≤◌, Bool, true, false, leb, List, [], ◌∷◌, ◌++◌, get_or, sym, refl, ◌∙◌, arith}
+use Rattle.std.specs.Bool.{MatchBool}
+use Rattle.std.specs.List.{list_all, AllByRecursion}
+use Rattle.std.specs.Str.{IsAscii, IsNotAscii}
+use Rattle.std.proofs.lemmas.List.{get_or_past}
+use Rattle.std.proofs.lemmas.List.Folds.{list_all-append, list_all_at}
 use Rattle.std.proofs.lemmas.Bool.{le-leb, lt-leb, leb-true, and_from, and_parts}
 use Rattle.util.specs.Text.{is_text, IsText}
 
@@ -11,10 +14,7 @@ text_none = refl
 
 pub text_append : (a b : List ℕ) → IsText a → IsText b → IsText (a ++ b)
 unfolding is_text
-text_append [] b p q = q
-text_append (x ∷ a) b p q =
-    let h = and_parts (leb x 127) (is_text a) p in
-    ap (λ (v : Bool). v && is_text (a ++ b)) h.0 ∙ text_append a b h.1 q
+text_append a b p q = list_all-append (λ x. leb x 127) a b ∙ and_from (is_text a) (is_text b) p q
 
 pub text_from_all : (bs : List ℕ) → AllByRecursion (λ b. b ≤ 127) bs → IsText bs
 unfolding is_text
@@ -26,17 +26,15 @@ unfolding is_text
 all_from_text [] h = tt
 all_from_text (b ∷ bs) h = let p = and_parts (leb b 127) (is_text bs) h in (leb-true b 127 p.0, all_from_text bs p.1)
 
--- from place i on, of which the byte is at hand
-step : (bs : List ℕ) (i : ℕ) → i < length bs → is_text (drop i bs) ≡ (leb (get_or bs i 0) 127 && is_text (drop (i + 1) bs))
+-- what the test of bytes answers
+pub text_from_test : (bs : List ℕ) (r : Bool) → MatchBool r (IsAscii bs) (IsNotAscii bs) → r ≡ is_text bs
 unfolding is_text
-step bs i h = at_drop_more is_text bs i 0 h
-
-pub text_more : (bs : List ℕ) (i : ℕ) → i < length bs → get_or bs i 0 ≤ 127 → is_text bs ≡ is_text (drop i bs) → is_text bs ≡ is_text (drop (i + 1) bs)
-text_more bs i h le e = e ∙ step bs i h ∙ ap (λ (v : Bool). v && is_text (drop (i + 1) bs)) (le-leb (get_or bs i 0) 127 le)
-
-pub text_stop : (bs : List ℕ) (i : ℕ) → i < length bs → 127 < get_or bs i 0 → is_text bs ≡ is_text (drop i bs) → false ≡ is_text bs
-text_stop bs i h lt e = sym (e ∙ step bs i h ∙ ap (λ (v : Bool). v && is_text (drop (i + 1) bs)) (lt-leb (get_or bs i 0) 127 lt))
-
-pub text_all : (bs : List ℕ) (i : ℕ) → length bs ≤ i → is_text bs ≡ is_text (drop i bs) → true ≡ is_text bs
-unfolding is_text
-text_all bs i h e = sym (e ∙ at_drop_all is_text bs i h)
+text_from_test bs true h = sym (every bs h)
+  where
+    every : (bs : List ℕ) → IsAscii bs → list_all (λ b. leb b 127) bs ≡ true
+    every [] h = refl
+    every (b ∷ bs) h = and_from (leb b 127) (list_all (λ b. leb b 127) bs) (le-leb b 127 (omega (arith, h 0))) (every bs (λ i. h (suc i)))
+text_from_test bs false h = sym (some bs h.0 h.1)
+  where
+    some : (bs : List ℕ) (i : ℕ) → 128 ≤ get_or bs i 0 → list_all (λ b. leb b 127) bs ≡ false
+    some bs i h = list_all_at (λ b. leb b 127) bs i 0 (grind (arith, get_or_past)) (lt-leb (get_or bs i 0) 127 (omega arith))

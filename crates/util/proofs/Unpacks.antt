@@ -1,9 +1,16 @@
 -- Of packed lists: one item, and all of them.
-use Rattle.std.proofs.Common.{◌≡◌, ℕ, zero, suc, ◌+◌, ◌*◌, ◌/◌, ◌%◌, ◌<◌, ◌≤◌, Bool, true, false, cond, eqb, leb, List, [], ◌∷◌, ◌++◌, length, get_or, take, drop, is_some, Some, None, Option, unwrap_or, sym, refl, ap, ◌∙◌, append_assoc, arith, length-append}
+use Rattle.std.proofs.Common.{◌≡◌, ℕ, zero, suc, ◌+◌, ◌*◌, ◌/◌, ◌%◌, ◌≤◌, Bool, true, false, cond, eqb, leb, List, [], ◌∷◌, ◌++◌, length, get_or, take, drop, is_some, Some, None, Option, unwrap_or, sym, refl, ap, ◌∙◌, append_assoc, arith, length-append, sum_by, Bor}
 use Rattle.std.proofs.lemmas.List.{take-append-drop, take_at, drop_at, length-take-le}
-use Rattle.std.proofs.lemmas.Bool.{le-leb, lt-leb, leb-true, ne_eqb}
+use Rattle.std.proofs.lemmas.Iterator.{YieldsList}
+use Rattle.std.proofs.lemmas.Iterator.Consumers.{YieldsList-from_shown}
+use Rattle.std.proofs.lemmas.List.Sums.{sum_by-cons}
+use Rattle.std.proofs.lemmas.Bool.Decides.{nat_tests}
+use Rattle.std.proofs.lemmas.Bool.{le-leb, leb-true, ne_eqb}
+use Rattle.std.specs.Bool.{⊤}
+use Rattle.std.specs.Iterator.{MakesProgress, item_count}
 use Rattle.std.specs.Option.{option_map}
-use Rattle.util.specs.Packed.{first_item, unpack_from, unpack_by, unpack, items_from, items_by, items, pack_item}
+use Rattle.util.specs.declared.packed.Items.{Items}
+use Rattle.util.specs.Packed.{first_item, unpack_from, unpack_by, unpack, items_from, items_by, items, pack_item, unread, ReadsItem}
 
 -- where the two length bytes and enough bytes behind them are found
 pub first_is : (bs ts : List ℕ) (h l : ℕ) (x y : List ℕ) → ts ≡ drop 2 bs → 2 ≤ length bs → h ≡ get_or bs 0 0 → l ≡ get_or bs 1 0
@@ -19,21 +26,6 @@ first_is (a ∷ (b ∷ cs)) ts h l x y t two p q le xe ye =
     let y2 : y ≡ drop (a * 256 + b) cs = ye ∙ ap (λ (k : ℕ). drop k ts) n ∙ ap (drop (a * 256 + b)) t in
     z ∙ ap (λ (u : List ℕ). Some (u, drop (a * 256 + b) cs)) (sym x2) ∙ ap (λ (u : List ℕ). Some (x, u)) (sym y2)
 
--- where there are not two bytes, or too few behind them
-pub first_short : (bs : List ℕ) → length bs < 2 → first_item bs ≡ None
-first_short [] h = refl
-first_short (a ∷ []) h = refl
-first_short (a ∷ (b ∷ cs)) h = absurd (omega arith)
-
-pub first_cut : (bs ts : List ℕ) (h l : ℕ) → ts ≡ drop 2 bs → 2 ≤ length bs → h ≡ get_or bs 0 0 → l ≡ get_or bs 1 0 → length ts < h * 256 + l → first_item bs ≡ None
-first_cut [] ts h l t two p q lt = absurd (omega arith)
-first_cut (a ∷ []) ts h l t two p q lt = absurd (omega arith)
-first_cut (a ∷ (b ∷ cs)) ts h l t two p q lt =
-    let n : h * 256 + l ≡ a * 256 + b = cc in
-    let m : length ts ≡ length cs = ap length t in
-    let S : Option (List ℕ × List ℕ) = Some (take (a * 256 + b) cs, drop (a * 256 + b) cs) in
-    ap (λ (w : Bool). cond w S None) (lt-leb (a * 256 + b) (length cs) (omega arith))
-
 -- what bytes are that begin with an item
 pub record Begins (bs x y : List ℕ) : Type 0 where
   pub high : ℕ
@@ -41,12 +33,9 @@ pub record Begins (bs x y : List ℕ) : Type 0 where
   pub count : high * 256 + low ≡ length x
   pub is : bs ≡ high ∷ low ∷ (x ++ y)
 
-none≢some : {X : Type 0} (x : X) → ◌≡◌ {A = Option X} None (Some x) → ⊥
-none≢some x e = let z : ◌≡◌ {A = ℕ} 0 1 = cc in omega arith
-
 pub begins : (bs x y : List ℕ) → first_item bs ≡ Some (x, y) → Begins bs x y
-begins [] x y e = absurd (none≢some (x, y) e)
-begins (h ∷ []) x y e = absurd (none≢some (x, y) e)
+begins [] x y e = cc
+begins (h ∷ []) x y e = cc
 begins (h ∷ (l ∷ bs)) x y e = at (leb (h * 256 + l) (length bs)) refl e
   where
     at : (v : Bool) → leb (h * 256 + l) (length bs) ≡ v → cond {A = Option (List ℕ × List ℕ)} v (Some (take (h * 256 + l) bs, drop (h * 256 + l) bs)) None ≡ Some (x, y) → Begins (h ∷ (l ∷ bs)) x y
@@ -59,7 +48,7 @@ begins (h ∷ (l ∷ bs)) x y e = at (leb (h * 256 + l) (length bs)) refl e
           count = sym (ap length (sym p) ∙ length-take-le (h * 256 + l) bs (leb-true (h * 256 + l) (length bs) t));
           is = ap (λ (r : List ℕ). h ∷ l ∷ r) (sym (take-append-drop (h * 256 + l) bs) ∙ ap (λ (r : List ℕ). r ++ drop (h * 256 + l) bs) p ∙ ap (λ (r : List ℕ). x ++ r) q);
         }
-    at false t w = absurd (none≢some (x, y) w)
+    at false t w = cc
 
 pub length_begins : (bs x y : List ℕ) → Begins bs x y → length bs ≡ 2 + (length x + length y)
 length_begins bs x y b = omega (arith, ap length b.is, length-append x y)
@@ -119,14 +108,14 @@ items_steps (suc m) (suc n) bs p q = at (first_item bs) refl (λ ys. items_steps
 -- past an item
 pub unpack_next : (bs x y : List ℕ) → first_item bs ≡ Some (x, y) → unpack bs ≡ option_map (λ ts. x ∷ ts) (unpack y)
 unfolding unpack
-unpack_next [] x y e = absurd (none≢some (x, y) e)
+unpack_next [] x y e = cc
 unpack_next (b ∷ bs) x y e =
     let l = length_begins (b ∷ bs) x y (begins (b ∷ bs) x y e) in
     ap (unpack_from (unpack_by (length bs))) e ∙ ap (option_map (λ ts. x ∷ ts)) (unpack_steps (length bs) (length y) y (omega arith) (omega arith))
 
 pub items_next : (bs x y : List ℕ) → first_item bs ≡ Some (x, y) → items bs ≡ x ∷ items y
 unfolding items
-items_next [] x y e = absurd (none≢some (x, y) e)
+items_next [] x y e = cc
 items_next (b ∷ bs) x y e =
     let l = length_begins (b ∷ bs) x y (begins (b ∷ bs) x y e) in
     ap (items_from (items_by (length bs))) e ∙ ap (λ ts. x ∷ ts) (items_steps (length bs) (length y) y (omega arith) (omega arith))
@@ -145,27 +134,73 @@ unfolding items
 items_stop [] e = refl
 items_stop (b ∷ bs) e = ap (items_from (items_by (length bs))) e
 
--- so bytes are well formed as far as what is left of them is
-pub formed_next : (bs x y : List ℕ) → first_item bs ≡ Some (x, y) → is_some (unpack bs) ≡ is_some (unpack y)
-formed_next bs x y e = ap is_some (unpack_next bs x y e) ∙ still (unpack y)
+-- What holds of bytes where no item follows, and of bytes if it holds of what is behind their first item, holds of all bytes.
+pub by_reading : (P : List ℕ → Type 0) → ((bs : List ℕ) → first_item bs ≡ None → P bs)
+    → ((bs x y : List ℕ) → first_item bs ≡ Some (x, y) → P y → P bs) → (bs : List ℕ) → P bs
+by_reading P stop more bs = by (length bs) bs (omega arith)
   where
-    still : (o : Option (List (List ℕ))) → is_some (option_map (λ ts. x ∷ ts) o) ≡ is_some o
-    still None = refl
-    still (Some ts) = refl
+    by : (n : ℕ) (bs : List ℕ) → length bs ≤ n → P bs
+    by zero [] le = stop [] refl
+    by zero (b ∷ bs) le = absurd (omega arith)
+    by (suc n) bs le = at (first_item bs) refl (by n)
+      where
+        at : (o : Option (List ℕ × List ℕ)) → first_item bs ≡ o → ((ys : List ℕ) → length ys ≤ n → P ys) → P bs
+        at None e again = stop bs e
+        at (Some w) e again = let l = length_begins bs w.0 w.1 (begins bs w.0 w.1 e) in more bs w.0 w.1 e (again w.1 (omega arith))
 
-pub formed_stop : (bs : List ℕ) → first_item bs ≡ None → is_some (unpack bs) ≡ eqb (length bs) 0
-formed_stop [] e = ap is_some unpack_none
-formed_stop (b ∷ bs) e = ap is_some (unpack_stop b bs e) ∙ sym (ne_eqb (suc (length bs)) 0 (λ q. omega arith))
+-- how many bytes an item takes up
+abbrev pub packed_size : List ℕ → ℕ
+packed_size t = 2 + length t
+
+-- the items of bytes take up no more than those
+pub items_fit : (bs : List ℕ) → sum_by packed_size (items bs) ≤ length bs
+items_fit bs =
+    by_reading (λ bs. sum_by packed_size (items bs) ≤ length bs)
+    (λ bs e. rw (items_stop bs e) (omega arith))
+    (λ bs x y e h. rw (items_next bs x y e) (omega (arith, h, sum_by-cons packed_size x (items y), length_begins bs x y (begins bs x y e)))) bs
+
+-- and just those where they are well formed
+pub items_fill : (bs : List ℕ) → eqb (sum_by packed_size (items bs)) (length bs) ≡ is_some (unpack bs)
+items_fill bs = by_reading (λ bs. eqb (sum_by packed_size (items bs)) (length bs) ≡ is_some (unpack bs)) stop more bs
+  where
+    stop : (bs : List ℕ) → first_item bs ≡ None → eqb (sum_by packed_size (items bs)) (length bs) ≡ is_some (unpack bs)
+    stop [] e = rw (items_stop [] e, unpack_none) refl
+    stop (b ∷ bs) e = rw (items_stop (b ∷ bs) e, unpack_stop b bs e) (ne_eqb 0 (suc (length bs)) (λ q. omega arith))
+
+    more : (bs x y : List ℕ) → first_item bs ≡ Some (x, y) → eqb (sum_by packed_size (items y)) (length y) ≡ is_some (unpack y) → eqb (sum_by packed_size (items bs)) (length bs) ≡ is_some (unpack bs)
+    more bs x y e h =
+        rw (items_next bs x y e, sum_by-cons packed_size x (items y), length_begins bs x y (begins bs x y e), unpack_next bs x y e)
+        (same (length x) (sum_by packed_size (items y)) (length y) ∙ h ∙ sym (still (unpack y)))
+      where
+        same : (n a b : ℕ) → eqb (2 + n + a) (2 + (n + b)) ≡ eqb a b
+        same n a b = grind (arith, nat_tests)
+
+        still : (o : Option (List (List ℕ))) → is_some (option_map (λ ts. x ∷ ts) o) ≡ is_some o
+        still None = refl
+        still (Some ts) = refl
 
 -- every item has its two length bytes
 pub few_items : (bs : List ℕ) → length (items bs) ≤ length bs
-unfolding items
-few_items bs = by (length bs) bs
-  where
-    by : (n : ℕ) (ys : List ℕ) → length (items_by n ys) ≤ n
-    by zero ys = omega arith
-    by (suc n) ys = at (first_item ys) (by n)
-      where
-        at : (o : Option (List ℕ × List ℕ)) → ((zs : List ℕ) → length (items_by n zs) ≤ n) → length (items_from (items_by n) o) ≤ suc n
-        at None again = omega arith
-        at (Some w) again = omega (arith, again w.1)
+few_items bs =
+    by_reading (λ bs. length (items bs) ≤ length bs)
+    (λ bs e. rw (items_stop bs e) (omega arith))
+    (λ bs x y e h. rw (items_next bs x y e) (omega (arith, h, length_begins bs x y (begins bs x y e)))) bs
+
+-- where no item follows the reader stays as it is
+pub reads_none : (s : Items) (r : Option (Bor (List ℕ))) → r ≡ None → first_item s.rest.now ≡ None → ReadsItem s r s
+reads_none s r e f = rw e record { first = (f, refl); items = (items_stop s.rest.now f, items_stop s.rest.now f); bound = tt }
+
+-- past an item
+pub reads_some : (s t : Items) (x : Bor (List ℕ)) → first_item s.rest.now ≡ Some (x.now, t.rest.now) → length x.now ≤ 65535 → ReadsItem s (Some x) t
+reads_some s t x f le =
+    let l = length_begins s.rest.now x.now t.rest.now (begins s.rest.now x.now t.rest.now f) in
+    record { first = f; items = items_next s.rest.now x.now t.rest.now f; bound = (le, omega arith) }
+
+-- with each item fewer are left
+pub reads_progress : (s : Items) (r : Option (Bor (List ℕ))) (t : Items) → ReadsItem s r t → MakesProgress (λ _. ⊤) (item_count unread) s r t
+reads_progress s None t h = record { on = λ _. tt; keeps = tt; rests = λ _. tt }
+reads_progress s (Some x) t h = record { on = λ _. (tt, tt, omega (arith, ap length h.items)); keeps = tt; rests = λ _. tt }
+
+-- the reader gives the items of the bytes that it has left
+pub reads_items : (s : Items) (bs : List ℕ) → s.rest.now ≡ bs → YieldsList ReadsItem (λ x. x.now) s (items bs)
+reads_items s bs e = rw (← e) (YieldsList-from_shown ReadsItem (λ x. x.now) unread (λ t u h. ap length h.items.0) (λ t x u h. h.items) s)

@@ -1,8 +1,11 @@
 -- Packed lists.
-use Rattle.std.specs.Prelude.{ℕ, zero, suc, ◌+◌, ◌*◌, ◌/◌, ◌%◌, ◌<◌, ◌≤◌, Bool, true, cond, ◌&&◌, List, [], ◌∷◌, length, take, drop, Some, None, Option, nat_le}
+use Rattle.std.specs.Prelude.{◌≡◌, ℕ, zero, suc, ◌+◌, ◌*◌, ◌/◌, ◌%◌, ◌<◌, ◌≤◌, Bool, cond, List, [], ◌∷◌, length, take, drop, Some, None, Option, IfSome, MatchOption, nat_le}
+use Rattle.std.specs.Borrow.{Bor}
+use Rattle.std.specs.Iterator.{YieldsFirstRef}
 use Rattle.std.specs.Option.{option_map}
-use Rattle.std.specs.List.{flat_map}
+use Rattle.std.specs.List.{flat_map, list_all}
 use Rattle.util.specs.Text.{is_text}
+use Rattle.util.specs.declared.packed.Items.{Items}
 use Rattle.util.specs.declared.packed.PackError.{PackError}
 use Rattle.util.specs.declared.packed.PackError.TheVariants.{Long, NoMemory}
 
@@ -49,10 +52,22 @@ items_by (suc n) bs = items_from (items_by n) (first_item bs)
 unfoldable pub items : List ℕ → List (List ℕ)
 items bs = items_by (length bs) bs
 
+-- the items that a reader has yet to give
+abbrev pub unread : Items → List (List ℕ)
+unread s = items s.rest.now
+
+-- what reading the next item gives and leaves
+pub record ReadsItem (s : Items) (r : Option (Bor (List ℕ))) (t : Items) : Type 0 where
+  -- the first item of what was left, and what follows it is left; or none, and all is left, where no item follows
+  pub first : MatchOption r ((first_item s.rest.now ≡ None) × (t.rest.now ≡ s.rest.now)) (λ x. first_item s.rest.now ≡ Some (x.now, t.rest.now))
+  -- so the first of the items that were yet to be given; or none, where there were none
+  pub items : YieldsFirstRef unread s r t
+  -- an item has at most 65,535 bytes, and fewer bytes are left after it
+  pub bound : IfSome r (λ x. (length x.now ≤ 65535) × (length t.rest.now < length s.rest.now))
+
 -- whether each item is a text
 abbrev pub all_text : List (List ℕ) → Bool
-all_text [] = true
-all_text (t ∷ ts) = is_text t && all_text ts
+all_text ts = list_all is_text ts
 
 -- why an item is not added: it is longer than its two length bytes can tell, or there is no memory for it
 abbrev pub Unpacked : List ℕ → PackError → Type 0

@@ -1,6 +1,6 @@
 -- How a listed value is shown.
-use Rattle.std.specs.Prelude.{ℕ, ◌+◌, ◌/◌, ◌%◌, Bool, true, false, cond, ◌&&◌, ◌||◌, List, [], ◌∷◌, ◌++◌, ◌==◌, nat_le, nat_lt}
-use Rattle.std.specs.List.{flat_map}
+use Rattle.std.specs.Prelude.{ℕ, ◌+◌, ◌/◌, ◌%◌, Bool, true, cond, ◌&&◌, ◌||◌, List, [], ◌∷◌, ◌++◌, ◌==◌, nat_le, nat_lt}
+use Rattle.std.specs.List.{flat_map, list_any}
 
 -- blanks: 09 to 0D, and 20
 abbrev pub blank : ℕ → Bool
@@ -8,8 +8,7 @@ blank b = b == 32 || (nat_le 9 b && nat_le b 13)
 
 -- whether there is one
 abbrev pub has_blank : List ℕ → Bool
-has_blank [] = false
-has_blank (b ∷ v) = blank b || has_blank v
+has_blank v = list_any blank v
 
 -- a value is quoted if it is empty or has a blank
 abbrev pub needs_quotes : List ℕ → Bool

@@ -6,10 +6,5 @@ ghost use Rattle.util.specs.Text.{is_text};
 pub fn is_text(bytes: &[u8]) -> bool
     ensures { result ≡ is_text bytes.now }
 {
-    for b in bytes {
-        if *b > 0x7f {
-            return false;
-        }
-    }
-    true
+    bytes.is_ascii()
 }

@@ -3,8 +3,8 @@ use Rattle.flat_map.proofs.entry_laws.Goals as goal
 
 pub returns : goal.returns
 returns g c = record {
-  put_found = put_found g.row.V.Denot g.K.Key.same g.K.Key.exact;
-  put_kept = put_kept g.row.V.Denot g.K.Key.same g.K.Key.exact;
-  without_kept = without_kept g.row.V.Denot g.K.Key.same g.K.Key.exact;
-  put_undone = put_undone g.row.V.Denot g.K.Key.same g.K.Key.exact;
+  put_found = put_found g.row.V.Denot g.K.PartialEq.eq g.met.K.Key.exact;
+  put_kept = put_kept g.row.V.Denot g.K.PartialEq.eq g.met.K.Key.exact;
+  without_kept = without_kept g.row.V.Denot g.K.PartialEq.eq g.met.K.Key.exact;
+  put_undone = put_undone g.row.V.Denot g.K.PartialEq.eq g.met.K.Key.exact;
 }

@@ -1,12 +1,5 @@
-use Rattle.std.proofs.Common.{◌≡◌, length, sym, ◌∙◌}
-use native.Mathlib.Nat.{sub-zero}
-use Rattle.flat_map.specs.Assoc.{entries}
-use Rattle.flat_map.proofs.Entries.{length_entries, keys_are, values_are, zipped_sides}
+use Rattle.flat_map.proofs.Entries.{entries_front}
 use Rattle.flat_map.proofs.iter_in.Goals as goal
 
 pub returns : goal.returns
-returns g c =
-    let ks = c.args.keys.now in
-    let vs = c.args.values.now in
-    let e : c.bounded-n.result ≡ length (entries ks vs c.args.count) = c.bounded-n.ensures ∙ sym (length_entries ks vs c.args.count) in
-    zipped_sides _ _ (entries ks vs c.args.count) (keys_are ks vs c.args.count _ (sub-zero c.bounded-n.result ∙ e)) (values_are ks vs c.args.count _ (sub-zero c.bounded-n.result ∙ e))
+returns g c = entries_front c.args.keys.now c.args.values.now c.args.count c.min.result c.min.ensures

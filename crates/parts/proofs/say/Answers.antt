@@ -7,12 +7,12 @@ use Rattle.parts.proofs.say.Goals as goal
 pub returns-in_err-part : goal.returns-in_err-part
 returns-in_err-part g c =
     exit g.T.Taker.laws _ (_ ∷ []) _ _ c.from_residual.result
-    (at_part g.T.Taker.laws c.args.parts.now c.loop-p.p-index _ c.loop-p-test.true c.loop-p.invariant) c.in_err-part.ensures c.from_residual.ensures.1
+    (at_part g.T.Taker.laws c.args.parts.now c.loop-part.part-index _ c.loop-part-test.true c.loop-part.invariant) c.in_err-part.ensures c.from_residual.ensures.1
 
-pub loop-p-preserved : goal.loop-p-preserved
-loop-p-preserved g c =
+pub loop-part-preserved : goal.loop-part-preserved
+loop-part-preserved g c =
     next g.T.Taker.laws (_ ∷ []) _
-    (at_part g.T.Taker.laws c.args.parts.now c.loop-p.p-index _ c.loop-p-test.true c.loop-p.invariant) c.in_ok-part.ensures
+    (at_part g.T.Taker.laws c.args.parts.now c.loop-part.part-index _ c.loop-part-test.true c.loop-part.invariant) c.in_ok-part.ensures
 
 pub returns : goal.returns
-returns g c = end g.T.Taker.laws (rw (at_drop_all parts_of c.args.parts.now c.loop-p.p-index c.loop-p-test.false) at c.loop-p.invariant)
+returns g c = end g.T.Taker.laws (rw (at_drop_all parts_of c.args.parts.now c.loop-part.part-index c.loop-part-test.false) at c.loop-part.invariant)

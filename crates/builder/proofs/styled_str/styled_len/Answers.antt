@@ -8,7 +8,7 @@ use Rattle.builder.proofs.styled_str.styled_len.Goals as goal
 pub returns : goal.returns
 returns c =
     let t = c.args.text.now in
-    let m : length c.as_bytes-marks.result.now ≡ length (marks c.args.style) = ap length (c.as_bytes-marks.ensures ∙ c.render.ensures) in
-    let l : length t + (length c.as_bytes-marks.result.now + 4) ≡ length (styled_text c.args.style t) =
+    let m : length c.as_bytes.result.now ≡ length (marks c.args.style) = ap length (c.as_bytes.ensures ∙ c.render.ensures) in
+    let l : length t + (length c.as_bytes.result.now + 4) ≡ length (styled_text c.args.style t) =
     omega (arith, length_marked c.args.style t (sym c.if-is_plain.ensures)) in
     exact_checked c.checked_add.result _ c.checked_add.ensures ∙ ap exact l

@@ -1,4 +1,4 @@
-use Rattle.std.proofs.Common.{refl, rules}
+use Rattle.std.proofs.Common.{rules}
 use Rattle.flat_map.proofs.Entries.{entries_push}
 use Rattle.flat_map.proofs.FlatMap.insert_unchecked.Goals as goal
 
@@ -10,11 +10,5 @@ returns g c =
     record {
       cases = p.is;
       spare = record { keys = p.spare_keys_lem; values = p.spare_values_lem };
-      memory = record {
-        keys_name = refl;
-        values_name = refl;
-        keys_len = search rules;
-        values_len = search rules;
-        cleared = refl;
-      };
+      memory = search rules;
     }

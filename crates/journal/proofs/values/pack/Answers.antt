@@ -3,7 +3,7 @@ use Rattle.std.proofs.lemmas.List.{length-map}
 use Rattle.std.proofs.lemmas.Result.{err_from_is_err_and}
 use Rattle.journal.specs.declared.values.Unlisted.{Unlisted}
 use Rattle.journal.specs.Listable.{Listable, WhyNot}
-use Rattle.journal.proofs.Packing.{pack_more, pack_all, value_at}
+use Rattle.journal.proofs.Packing.{pack_more, value_at}
 use Rattle.journal.proofs.values.pack.Goals as goal
 
 pub returns-in_err-push_value : goal.returns-in_err-push_value
@@ -33,6 +33,3 @@ loop-i-preserved c =
           c.loop-i-test.true c.index-values-i.is c.as_bytes.ensures.value c.loop-i.invariant.0 e.1,
       below_more (λ (k : ℕ). Listable (get_or (map string_bytes xs) k [])) i c.loop-i.invariant.1 (subst Listable at e.0),
     )
-
-pub returns : goal.returns
-returns c = pack_all string_bytes c.args.values.now c.loop-i.i _ c.loop-i-test.false c.loop-i.invariant.0

@@ -1,22 +1,27 @@
-use Rattle.std.proofs.Common.{◌≡◌, ◌-◌, length, take, ap, arith}
+use Rattle.std.proofs.Common.{◌≡◌, ◌++◌, length, ap, arith}
+use Rattle.std.specs.List.{flat_map}
 use Rattle.std.proofs.lemmas.Result.{MatchResult-from_err}
-use Rattle.sheet.specs.Puts.{length_split, length_more}
+use Rattle.sheet.proofs.Puts.{coded_split, length_split, leaves_others, plain_front, run_not_empty}
 use Rattle.sheet.proofs.markup.put_front.Goals as goal
 
-pub returns-in_err-put : goal.returns-in_err-put
-returns-in_err-put g c =
+pub returns-in_err-put-in-None : goal.returns-in_err-put-in-None
+returns-in_err-put-in-None g c =
     let code = g.M.Markup.coded c.args.markup.now in
     let t = c.args.text.now in
-    let run = c.plain_run-run.result in
-    let h = c.in_err-put.ensures.short.over in
-    let s = ap length c.plain_run-run.ensures.same in
-    let z : run - 0 ≡ run = omega arith in
-    MatchResult-from_err _ _ _ c.from_residual.ensures.0 (λ y. omega (arith, h, s, ap (λ k. length (take k t)) z, length_split code t run))
+    let run = c.plain_run.result in
+    let put = c.split_at.result.0.now in
+    let front = plain_front code t run put c.split_at.ensures.front c.plain_run.ensures.plain in
+    MatchResult-from_err _ _ _ c.from_residual-in_err-put-in-None.ensures.0
+    (λ y. omega (arith, c.in_err-put-in-None.ensures.short.over, ap length front, length_split code t run))
 
-pub returns-in_err-put-2 : goal.returns-in_err-put-2
-returns-in_err-put-2 g c =
+pub returns-in_ok-put-in-None : goal.returns-in_ok-put-in-None
+returns-in_ok-put-in-None g c =
     let code = g.M.Markup.coded c.args.markup.now in
     let t = c.args.text.now in
-    let h = c.in_err-put-2.ensures.short.over in
-    MatchResult-from_err _ _ _ c.from_residual-in_err-put-2.ensures.0
-    (λ y. omega (arith, h, ap length c.code-code.ensures.value, length_more code t 0 c.requires, length_split code t 1))
+    let run = c.plain_run.result in
+    let put = c.split_at.result.0.now in
+    let rest = c.split_at.result.1.now in
+    let front = plain_front code t run put c.split_at.ensures.front c.plain_run.ensures.plain in
+    let parts : flat_map code t ≡ put ++ flat_map code rest = rw (front, c.split_at.ensures.back) (coded_split code t run) in
+    let some = run_not_empty code t run c.plain_run.ensures.longest c.requires c.in-None.ensures in
+    (omega (arith, some, c.split_at.ensures.back_len), leaves_others put (flat_map code rest) (flat_map code t) parts c.in_ok-put-in-None.ensures)

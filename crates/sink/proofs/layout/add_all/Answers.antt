@@ -1,47 +1,41 @@
-use Rattle.std.proofs.Common.{◌≡◌, ℕ, ◌+◌, ◌-◌, ◌*◌, ◌/◌, ◌≤◌, List, ◌++◌, length, take, drop, ap, ◌∙◌, arith}
-use Rattle.std.proofs.lemmas.List.{take_all, length-take-le, length-drop}
-use Rattle.sink.specs.Layout.{encode, texts}
-use Rattle.sink.proofs.Adding.{in_use_sound, in_use_more, length_more, piece_more}
+use Rattle.std.proofs.Common.{◌≡◌, ℕ, ◌*◌, ◌/◌, ◌%◌, ◌<◌, List, ◌++◌, length, take, sym, refl, ap, ap₂, ◌∙◌, arith, length-append}
+use Rattle.std.proofs.lemmas.List.{take_rest}
+use Rattle.sink.specs.Layout.{block_of, texts}
+use Rattle.sink.proofs.Adding.{in_use_sound, in_use_more, piece_moved, put_rest}
+use Rattle.sink.proofs.Encoding.{length_encode, length_held}
 use Rattle.sink.proofs.layout.add_all.Goals as goal
 
--- The length of the part from i to i + m.
-piece : (xs : List ℕ) (i m : ℕ) → i + m ≤ length xs → length (take (i + m - i) (drop i xs)) ≡ m
-piece xs i m h = let n : i + m - i ≤ length (drop i xs) = simp length-drop (omega arith) in length-take-le (i + m - i) (drop i xs) n ∙ omega arith
+pub loop-left-init : goal.loop-left-init
+loop-left-init c =
+    let bytes = c.args.bytes.now in
+    let n : ℕ = length bytes / 512 in
+    let h : length bytes ≡ 512 * n = ap length c.requires.sound ∙ length_encode n _ in
+    (take c.args.held (texts n bytes), length_held n c.args.held bytes h (omega (arith, c.requires.room)), c.requires.room, c.requires.sound, refl)
 
-pub add_text-requires : goal.add_text-requires
-add_text-requires c =
-    let n = c.args.blocks in
-    let held = c.args.held in
-    let text = c.args.text.now in
-    let done = c.loop-done.done in
-    let dst = c.loop-done.dst in
-    let t : List ℕ = take held (texts n c.args.dst.now) ++ take done text in
-    let e = length_more n held done c.args.dst.now text c.requires.size (omega (arith, c.requires.room)) c.loop-done.invariant.0 in
-    let p = piece text done c.min-more.result (omega arith) in
-    record {
-      whole = piece dst (512 * ((held + done) / 508)) 512 (omega (arith, c.requires.room, c.requires.size, c.loop-done.auto.dst));
-      sound = in_use_sound n (held + done) _ t dst e (omega (arith, c.requires.room)) c.loop-done.invariant.1 (omega arith);
-      room = omega arith;
-    }
+pub add_text-requires-clause-sound : goal.add_text-requires-clause-sound
+add_text-requires-clause-sound c =
+    let m = c.loop-left.invariant in
+    let at = c.loop-left.held in
+    let bytes = c.loop-left.bytes in
+    let n : ℕ = length c.args.bytes.now / 512 in
+    let e = take_rest bytes (512 * (at / 508)) in
+    let l : at < 508 * n = grind (arith, m.2) in
+    ap (λ (x : List ℕ). take 512 x) e ∙ in_use_sound n at m.0 bytes m.1 l m.3 ∙ ap (λ (x : List ℕ). block_of (take (at % 508) x)) (sym e)
 
-pub loop-done-preserved : goal.loop-done-preserved
-loop-done-preserved c =
-    let n = c.args.blocks in
-    let held = c.args.held in
-    let text = c.args.text.now in
-    let done = c.loop-done.done in
-    let dst = c.loop-done.dst in
-    let more = c.min-more.result in
-    let front : List ℕ = take held (texts n c.args.dst.now) in
-    let e = length_more n held done c.args.dst.now text c.requires.size (omega (arith, c.requires.room)) c.loop-done.invariant.0 in
-    let p = piece text done more (omega arith) in (
-      omega arith,
-      in_use_more n (held + done) _ (front ++ take done text) _ dst c.add_text.new.dst e (omega (arith, c.requires.room)) c.loop-done.invariant.1 (omega arith) (omega arith) c.add_text.ensures
-          ∙ ap (λ (l : List ℕ). encode n l) (piece_more front text done more _ (omega arith)),
+pub loop-left-preserved : goal.loop-left-preserved
+loop-left-preserved c =
+    let m = c.loop-left.invariant in
+    let at = c.loop-left.held in
+    let bytes = c.loop-left.bytes in
+    let left = c.loop-left.left.now in
+    let k = c.min.result in
+    let now = c.split_at.result.0.now in
+    let s = c.split_at.ensures in
+    let n : ℕ = length c.args.bytes.now / 512 in
+    let l : at < 508 * n = grind (arith, m.2) in (
+      m.0 ++ now,
+      omega (arith, length-append m.0 now),
+      omega (arith, m.2),
+      put_rest (512 * (at / 508)) bytes c.add_text.new.bytes ∙ in_use_more n at m.0 now bytes _ c.add_text.new.bytes m.1 l m.3 (omega arith) (take_rest bytes (512 * (at / 508))) c.add_text.ensures,
+      ap₂ (λ (x y : List ℕ). (m.0 ++ x) ++ y) s.front s.back ∙ piece_moved m.0 left k ∙ m.4,
     )
-
-pub returns : goal.returns
-returns c =
-    let n = c.args.blocks in
-    let text = c.args.text.now in
-    c.loop-done.invariant.1 ∙ ap (λ (l : List ℕ). encode n (take c.args.held (texts n c.args.dst.now) ++ l)) (take_all c.loop-done.done text (omega arith))

@@ -1,18 +1,20 @@
-use Rattle.std.proofs.Common.{◌≡◌, ℕ, length, take, drop, sym, refl, ap, ◌∙◌, arith}
-use Rattle.std.proofs.lemmas.List.{take_all}
-use Rattle.sink.specs.Layout.{texts}
+use Rattle.std.proofs.Common.{◌≡◌, ℕ, ◌+◌, ◌-◌, ◌*◌, ◌/◌, ◌%◌, ◌<◌, List, [], length, get_or, arith}
+use Rattle.std.proofs.lemmas.List.Edits.{get_or-between}
+use Rattle.std.specs.List.{between}
 use Rattle.sink.proofs.Reading.{read_more}
 use Rattle.sink.proofs.layout.read_all.Goals as goal
 
-pub loop-done-preserved : goal.loop-done-preserved
-loop-done-preserved c = (
-  omega arith,
-  read_more c.args.blocks c.args.from c.loop-done.done c.min-more.result _ _ _ c.args.src.now c.loop-done.out c.copy_from_slice.new.self
-      c.requires.size (omega (arith, c.requires.within)) (omega arith) (omega arith) (omega arith) (omega arith) refl c.loop-done.invariant.1 c.copy_from_slice.ensures.after,
-)
-
-pub returns : goal.returns
-returns c =
-    let done = c.loop-done.done in
-    let e : done ≡ length c.args.out.now = omega arith in
-    sym (take_all done c.loop-done.out (omega arith)) ∙ c.loop-done.invariant.1 ∙ ap (λ (i : ℕ). take i (drop c.args.from (texts c.args.blocks c.args.src.now))) e
+pub loop-block-preserved : goal.loop-block-preserved
+loop-block-preserved c =
+    let bs = c.args.blocks.now in
+    let from = c.args.from in
+    let done = c.loop-block.done in
+    let b : ℕ = from / 508 + c.loop-block.block-index in
+    let used : ℕ = (from + done) % 508 in
+    let l : b < length bs = omega arith in
+    let x : List ℕ = get_or (between (from / 508) c.div_ceil.result bs) c.loop-block.block-index [] in
+    let w : x ≡ get_or bs b [] = get_or-between bs (from / 508) c.div_ceil.result c.loop-block.block-index [] (omega arith) in
+    let e : from + done ≡ 508 * b + used = omega (arith, c.loop-block.invariant.0) in (
+      omega (arith, c.loop-block.invariant.0),
+      read_more bs from done b used c.min-more.result (used + c.min-more.result - used) _ x c.loop-block.out c.copy_from_slice.new.self c.told-blocks l w e (omega arith) (omega arith) (omega arith) (omega arith) c.loop-block.invariant.1 c.copy_from_slice.ensures.after,
+    )

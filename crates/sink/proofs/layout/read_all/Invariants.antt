@@ -1,9 +1,10 @@
-use Rattle.std.proofs.Common.{◌≡◌, ◌-◌, ◌≤◌, length, take, drop}
+use Rattle.std.proofs.Common.{◌≡◌, ◌+◌, ◌*◌, ◌/◌, min, max, length, take, drop}
+use Rattle.std.specs.List.{concat}
 use Rattle.sink.specs.Layout.{texts}
 use Rattle.sink.proofs.layout.read_all.Given as goal
 
-abbrev pub invariant-loop-done : goal.invariant-loop-done
-invariant-loop-done l = (l.done ≤ length l.initial.out) × (take l.done l.out ≡ take l.done (drop l.from (texts l.blocks l.src)))
-
-abbrev pub decreases-loop-done : goal.decreases-loop-done
-decreases-loop-done l = length l.initial.out - l.done
+-- It stands at the block's start, or before that at `from`, or at the end of what is to be read.
+abbrev pub invariant-loop-block : goal.invariant-loop-block
+invariant-loop-block l =
+    (l.from + l.done ≡ min (l.from + length l.initial.out) (max l.from (508 * (l.from / 508 + l.block-index))))
+    × (take l.done l.out ≡ take l.done (drop l.from (texts (length l.blocks) (concat l.blocks))))

@@ -1,9 +1,10 @@
-use Rattle.std.proofs.Common.{length, ap, rules}
-use Rattle.util.proofs.Unpacks.{few_items}
+use Rattle.std.proofs.Common.{length, ap, inl, arith}
+use Rattle.std.proofs.lemmas.Iterator.Consumers.{count_from_yields_List}
+use Rattle.util.proofs.Unpacks.{few_items, reads_items}
 use Rattle.util.proofs.packed.count_items.Goals as goal
 
-pub overflow_add-count : goal.overflow_add-count
-overflow_add-count c =
-    let f = few_items c.args.list.now in
-    let g = ap length c.in-Some.ensures.items in
-    search rules
+pub count-requires-clause-fits : goal.count-requires-clause-fits
+count-requires-clause-fits c = inl (omega (arith, few_items c.new.result.rest.now, ap length c.new.ensures))
+
+pub returns : goal.returns
+returns c = count_from_yields_List c.new.result c.count.result c.count.ensures.ran (reads_items c.new.result c.args.list.now c.new.ensures)

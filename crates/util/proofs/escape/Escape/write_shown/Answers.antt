@@ -1,5 +1,4 @@
 use Rattle.std.proofs.Common.{◌≡◌, ℕ, List, ◌++◌, length, drop, sym, ap, ◌∙◌, arith}
-use native.Mathlib.Nat.{sub-zero}
 use Rattle.std.proofs.lemmas.List.{length-take-le}
 use Rattle.util.specs.Shown.{shown}
 use Rattle.util.proofs.Lengths.{from_exact}
@@ -16,7 +15,7 @@ pub copy_from_slice-requires : goal.copy_from_slice-requires
 copy_from_slice-requires c =
     let v = c.args.self.now.0.now in
     let e : c.in_ok-len.len ≡ length (shown v) = from_exact (length (shown v)) c.in_ok-len.len c.in_ok-len.ensures in
-    length-take-le _ c.args.out.now (omega (arith, c.if-len-out.false)) ∙ sub-zero c.in_ok-len.len ∙ e ∙ ap length (shown_plain v (sym c.if-needs_escaping.ensures))
+    length-take-le _ c.args.out.now (omega (arith, c.if-len-out.false)) ∙ e ∙ ap length (shown_plain v (sym c.if-needs_escaping.ensures))
 
 pub returns-then-needs_escaping : goal.returns-then-needs_escaping
 returns-then-needs_escaping c =
@@ -31,6 +30,5 @@ returns-else-needs_escaping c =
     let e : c.in_ok-len.len ≡ length (shown v) = from_exact (length (shown v)) c.in_ok-len.len c.in_ok-len.ensures in
     let q = sym (shown_plain v (sym c.if-needs_escaping.ensures)) in (
       e,
-      ap (λ (k : ℕ). c.copy_from_slice.new.self ++ drop k c.args.out.now) (sub-zero c.in_ok-len.len)
-          ∙ ap (λ (l : List ℕ). l ++ drop c.in_ok-len.len c.args.out.now) (c.copy_from_slice.ensures.after ∙ q),
+      ap (λ (l : List ℕ). l ++ drop c.in_ok-len.len c.args.out.now) (c.copy_from_slice.ensures.after ∙ q),
     )
