@@ -48,7 +48,7 @@ pub fn holds(heap: Global, file: &BlockFile, text: &[u8]) -> Result<bool, AllocE
     Ok(held.as_slice() == text)
 }
 
-// The count and the check of a block. Zeros stand for no such block: the program states them as they are.
+// The count and the check of a block. Zeros stand for no such block: the call promises four bytes and cannot fail.
 pub fn seal_of(file: &BlockFile, block: usize) -> [u8; 4]
     ensures { result ≡ seal_at file.now.bytes.items block }
 {

@@ -68,7 +68,7 @@ fn line_on<S: Sheet>(
     sheet: &S,
 ) -> Result<ByteArea, Failure<'static>> {
     let line = Line { forms };
-    // A length beyond 64 bits is told as their largest number.
+    // A length beyond 64 bits is told as their largest number, as a sheet's `width` tells it.
     let wanted = measure(&line, sheet).unwrap_or(u64::MAX);
     if wanted > 1_048_576 {
         return Err(Failure::Overlong(wanted));
