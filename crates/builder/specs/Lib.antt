@@ -3,4 +3,5 @@ pub mod Rendered
 pub mod Roles
 pub mod SameRoles
 pub mod Styling
+pub mod Writing
 pub mod Written

@@ -1,6 +1,7 @@
 // Texts in a style, and ready text that is built in lent memory piece by piece.
 ghost use Rattle.std.specs.Prelude.{◌≡◌, ◌≤◌, [], length, take};
 ghost use Rattle.builder.specs.Marks.{styled_text};
+ghost use Rattle.builder.specs.Writing.{Writes};
 ghost use Rattle.sink.specs.Outcome.{Adds};
 ghost use Rattle.util.specs.Lengths.{exact};
 
@@ -116,4 +117,34 @@ impl Sink for StyledStr<'_> {
     {
         self.push_str(text)
     }
+}
+
+// Writes text at a place of lent memory, and tells where it ends; none, and nothing is written, where it does not fit.
+// By itself, and not over a `StyledStr`: for a short text that takes several times the instructions.
+pub fn push_str(out: &mut [u8], at: usize, text: &[u8]) -> Option<usize>
+    ensures { Writes out.old at text.now out.new result }
+{
+    let end = at.checked_add(text.len())?;
+    if end > out.len() {
+        return None;
+    }
+    out[at..end].copy_from_slice(text);
+    Some(end)
+}
+
+// Writes text in a style at a place of lent memory, as `push_str` does.
+pub fn push_styled(out: &mut [u8], at: usize, style: Style, text: &[u8]) -> Option<usize>
+    ensures { Writes out.old at (styled_text style text.now) out.new result }
+{
+    if style.is_plain() {
+        return push_str(out, at, text);
+    }
+    let end = at.checked_add(styled_len(style, text)? as usize)?;
+    if end > out.len() {
+        return None;
+    }
+    let marks = style.render();
+    let at = push_str(out, at, marks.as_bytes())?;
+    let at = push_str(out, at, text)?;
+    push_str(out, at, RESET)
 }

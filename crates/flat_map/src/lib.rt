@@ -169,7 +169,10 @@ impl<'k, 'v, K: Key, V: Copy> FlatMap<'k, 'v, K, V> {
     pub fn get(&self, key: K) -> Option<&V>
         ensures { option_map (λ x. x.now) result ≡ lookup K.PartialEq.eq (entries_of self.now) key }
     {
-        get_in(&self.keys[..], &self.values[..], self.count, key)
+        // Not `get_in`: that goes over the values too, and a search for a place over the keys alone.
+        let place = self.place(key)?;
+        let values = &*self.values;
+        Some(&values[place])
     }
 
     // Where the key's entry is.

@@ -33,7 +33,8 @@ pub trait Taker {
         ensures { Tells steps fails self.old (told_part part.entry ∷ []) self.new result };
 }
 
-// Tells some parts, in their order.
+// Tells some parts, in their order. Inlined, so that where it is called their roles are known.
+#[inline(always)]
 pub fn say<T: Taker>(to: &mut T, parts: &[Part<'_>]) -> Result<(), SheetFault>
     ensures { Tells T.Taker.steps T.Taker.fails to.old (parts_of parts.now) to.new result }
 {

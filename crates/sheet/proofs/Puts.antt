@@ -1,10 +1,12 @@
 -- One put after another, and texts that are put byte by byte.
-use Rattle.std.specs.Prelude.{◌≡◌, ℕ, zero, suc, ◌+◌, ◌<◌, ◌≢◌, List, [], ◌∷◌, ◌++◌, length, take, drop, slice_index, refl}
-use Rattle.std.proofs.Common.{sym, ap, ap₂, ◌∙◌, append_assoc, append-nil, arith, length-append}
+use Rattle.std.specs.Prelude.{◌≡◌, ℕ, zero, suc, ◌+◌, ◌-◌, ◌<◌, ◌≢◌, true, List, [], ◌∷◌, ◌++◌, length, take, drop, is_err, Result, slice_index, refl}
+use Rattle.std.proofs.Common.{sym, ap, ap₂, ◌∙◌, append_assoc, append-nil, arith, length-append, take-add}
 use Rattle.std.specs.List.{flat_map}
-use Rattle.std.proofs.lemmas.List.{take_more, take-append-drop}
-use Rattle.sink.specs.Outcome.{Took}
-use Rattle.sheet.specs.Frames.{framing, edge, Leaves}
+use Rattle.std.proofs.lemmas.List.{take_more, take_rest, take-append-drop}
+use Rattle.std.proofs.lemmas.Result.{MatchResult-weaker, MatchResult-from_err}
+use Rattle.sink.specs.Outcome.{Adds, Took}
+use Rattle.sink.specs.declared.fault.SinkFault.{SinkFault}
+use Rattle.sheet.specs.Frames.{framing, edge, Puts, Leaves}
 use Rattle.sheet.specs.Parts.{Label}
 use Rattle.sheet.specs.Roles.{part_of}
 use Rattle.sheet.specs.declared.role.Role.{Role}
@@ -18,6 +20,33 @@ leaves_others {held = held} {s = s} a b all e p = record {
   room = omega (arith, p.rest, ap length e, length-append a b);
 }
 
+-- to put nothing changes nothing
+pub took_none : {K : Type 0} (held : K → List ℕ) (left : K → ℕ) (s : K) → Took held left s [] s
+took_none held left s = record { fits = omega arith; holds = sym (append-nil (held s)); rest = omega arith }
+
+-- two puts are one of all their bytes
+pub took_more : {K : Type 0} {held : K → List ℕ} {left : K → ℕ} {s t u : K} (a b : List ℕ) →
+    Took held left s a t → Took held left t b u → Took held left s (a ++ b) u
+took_more {held = held} {s = s} a b p q = record {
+  fits = omega (arith, p.fits, p.rest, q.fits, length-append a b);
+  holds = q.holds ∙ ap (λ (r : List ℕ). r ++ b) p.holds ∙ append_assoc (held s) a b;
+  rest = omega (arith, p.rest, q.rest, length-append a b);
+}
+
+-- what is put after that
+pub puts_after : {K X E : Type 0} {held : K → List ℕ} {left : K → ℕ} {s t : K} (a b : List ℕ) (u : K) (r : Result X E) →
+    Took held left s a t → Puts held left t b u r → Puts held left s (a ++ b) u r
+puts_after a b u r p q = MatchResult-weaker r q (λ x h. took_more a b p h) (λ e h. omega (arith, p.rest, length-append a b))
+
+-- what a single put did
+pub puts_from_adds : {K X : Type 0} (held : K → List ℕ) (left : K → ℕ) (s : K) (bs : List ℕ) (t : K) (r : Result X SinkFault) →
+    Adds (λ e. e) held left s bs t r → Puts held left s bs t r
+puts_from_adds held left s bs t r h = MatchResult-weaker r h (λ x k. k) (λ e k. k.short.over)
+
+-- where there was no room for all of it
+pub puts_short : {K X E : Type 0} (held : K → List ℕ) (left : K → ℕ) (s t : K) (bs : List ℕ) (r : Result X E) → is_err r ≡ true → left s < length bs → Puts held left s bs t r
+puts_short held left s t bs r e h = MatchResult-from_err r _ _ e (λ y. h)
+
 module _ (code : ℕ → List ℕ) (t : List ℕ) where
   -- one byte more
   pub coded_more : (i : ℕ) → i < length t → flat_map code (take (i + 1) t) ≡ flat_map code (take i t) ++ code (slice_index t i)
@@ -28,6 +57,12 @@ module _ (code : ℕ → List ℕ) (t : List ℕ) where
   -- some bytes, and the others
   pub coded_split : (i : ℕ) → flat_map code t ≡ flat_map code (take i t) ++ flat_map code (drop i t)
   coded_split i = ap (flat_map code) (sym (take-append-drop i t)) ∙ flat_map-append code (take i t) (drop i t)
+
+  -- some bytes, and some of the part behind them
+  pub coded_part : (i n : ℕ) → flat_map code (take (i + n) t) ≡ flat_map code (take i t) ++ flat_map code (take n (take (length t - i) (drop i t)))
+  coded_part i n =
+      ap (flat_map code) (take-add i n t ∙ ap (λ (l : List ℕ). take i t ++ take n l) (sym (take_rest t i)))
+      ∙ flat_map-append code (take i t) (take n (take (length t - i) (drop i t)))
 
   -- plain bytes at the front stay as they are
   coded_plain : (n : ℕ) (u : List ℕ) → ((k : ℕ) → k < n → code (slice_index u k) ≡ slice_index u k ∷ []) → flat_map code (take n u) ≡ take n u
@@ -46,6 +81,10 @@ module _ (code : ℕ → List ℕ) (t : List ℕ) where
 
   pub length_split : (i : ℕ) → length (flat_map code t) ≡ length (flat_map code (take i t)) + length (flat_map code (drop i t))
   length_split i = ap length (coded_split i) ∙ length-append (flat_map code (take i t)) (flat_map code (drop i t))
+
+  -- a part's length, with what stands before it
+  pub length_part : (i : ℕ) → length (flat_map code t) ≡ length (flat_map code (take i t)) + length (flat_map code (take (length t - i) (drop i t)))
+  length_part i = length_split i ∙ ap (λ (l : List ℕ). length (flat_map code (take i t)) + length (flat_map code l)) (sym (take_rest t i))
 
   pub length_more : (i : ℕ) → i < length t → length (flat_map code (take (i + 1) t)) ≡ length (flat_map code (take i t)) + length (code (slice_index t i))
   length_more i h = ap length (coded_more i h) ∙ length-append (flat_map code (take i t)) (code (slice_index t i))

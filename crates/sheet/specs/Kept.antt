@@ -4,9 +4,9 @@ use Rattle.std.proofs.Common.{arith, length-append}
 use Rattle.std.specs.List.{flat_map}
 use Rattle.std.proofs.lemmas.Grind.{flat_map-append}
 use Rattle.sheet.specs.Frames.{framing}
-use Rattle.sheet.specs.Page.{control, element, start_tag, page_byte, end_tag}
+use Rattle.sheet.specs.Page.{control, element, start_tag, page_byte, end_tag, page}
 use Rattle.sheet.specs.Parts.{Text, Label, error, valid, invalid, literal, given, ready, Part, fixed, labelled, text_of}
-use Rattle.sheet.specs.Tag.{start_mark, tag_byte, end_mark}
+use Rattle.sheet.specs.Tag.{start_mark, tag_byte, end_mark, tag}
 use Rattle.sheet.specs.Terminal.{style_in, terminal}
 use Rattle.builder.specs.Marks.{mark, color_mark, marks, is_plain, reset}
 use Rattle.builder.specs.declared.styling.AnsiColor.{AnsiColor}
@@ -41,6 +41,12 @@ tag_byte_short b = either_bounded (b == 27) _ _ (omega arith) (omega arith)
 pub tag_edges : (l : Label) → length (start_mark l) + length (end_mark l) ≤ 64
 tag_edges l = omega arith
 
+pub tag_joins : (a b : Text) → tag (fixed (a ++ b)) ≡ tag (fixed a) ++ tag (fixed b)
+tag_joins a b = framing_joins start_mark tag_byte end_mark a b
+
+pub tag_bounded : (p : Part) → length (tag p) ≤ 16 * length (text_of p) + 64
+tag_bounded p = framing_bounded start_mark tag_byte end_mark tag_byte_short tag_edges p
+
 -- the page sheet
 pub page_edges : (l : Label) → length (start_tag (element l)) + length (end_tag (element l)) ≤ 64
 page_edges error = omega arith
@@ -54,6 +60,12 @@ pub page_byte_short : (b : ℕ) → length (page_byte b) ≤ 16
 page_byte_short b =
     either_bounded (b == 38) _ _ (omega arith) (either_bounded (b == 60) _ _ (omega arith)
     (either_bounded (b == 62) _ _ (omega arith) (either_bounded (control b) _ _ (omega arith) (omega arith))))
+
+pub page_joins : (a b : Text) → page (fixed (a ++ b)) ≡ page (fixed a) ++ page (fixed b)
+page_joins a b = framing_joins (λ l. start_tag (element l)) page_byte (λ l. end_tag (element l)) a b
+
+pub page_bounded : (p : Part) → length (page p) ≤ 16 * length (text_of p) + 64
+page_bounded p = framing_bounded (λ l. start_tag (element l)) page_byte (λ l. end_tag (element l)) page_byte_short page_edges p
 
 -- the terminal sheet: a style has three marks at most
 pub terminal_joins : (s : Styles) (a b : Text) → terminal s (fixed (a ++ b)) ≡ terminal s (fixed a) ++ terminal s (fixed b)

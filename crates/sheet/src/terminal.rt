@@ -19,7 +19,8 @@ pub struct Terminal {
 }
 
 impl Terminal {
-    // The style of a role; fixed, given and ready texts have none.
+    // The style of a role; fixed, given and ready texts have none. Inlined, as `measure` is: where the role is known, no style is searched for.
+    #[inline]
     pub fn style(&self, role: Role) -> Style
         ensures { result ≡ style_in self.now.styles (part_of role []) }
     {
@@ -40,6 +41,7 @@ impl Sheet for Terminal {
 
     ghost bounded = { λ s. terminal_bounded s.styles };
 
+    #[inline(always)]
     fn measure(&self, part: Part<'_>) -> Option<u64> {
         styled_len(self.style(part.role), part.text)
     }

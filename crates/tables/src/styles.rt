@@ -1,5 +1,5 @@
 // Styles: the marks of each of the 36, and the standard colours. A mark is 1B 5B n 6D, with 1 for bold, 4 for underline and 30 to 37 for a colour.
-use builder::styled_str::{StyledStr, put_styled, styled_len};
+use builder::styled_str::{StyledStr, push_str, push_styled, put_styled, styled_len};
 use builder::styling::{AnsiColor, Style, Styles};
 use sink::Sink;
 use std::test::Fail;
@@ -48,6 +48,13 @@ fn shows(style: Style, bytes: &[u8]) -> bool {
     if n > 20 || styled_len(style, b"word") != Some(n as u64) {
         return false;
     }
+    let written = push_styled(&mut out[..n], 0, style, b"word");
+    if written != Some(n) || &out[..n] != bytes {
+        return false;
+    }
+    if push_styled(&mut out[..n], 1, style, b"word").is_some() || &out[..n] != bytes {
+        return false;
+    }
     let mut pushed = StyledStr::new(&mut out[..n]);
     if pushed.push_styled(style, b"word").is_err() || pushed.as_bytes() != bytes {
         return false;
@@ -72,4 +79,16 @@ fn standard_colours(rt: HostRuntime) {
     assert!(rt; shows(styles.get_literal(), b"\x1b[1mword\x1b[0m"));
     assert!(rt; shows(Styles::plain().get_error(), b"word"));
     assert!(rt; shows(styles.valid(Style::new()).get_valid(), b"word"));
+}
+
+// Text is written just at its place; beyond the memory there is no place, not even for an empty text.
+#[test]
+fn places(rt: HostRuntime) {
+    let mut out = *b"....";
+    assert_eq!(rt; push_str(&mut out, 1, b"ab"), Some(3));
+    assert_eq!(rt; push_str(&mut out, 3, b"cd"), None);
+    assert_eq!(rt; push_str(&mut out, 4, b""), Some(4));
+    assert_eq!(rt; push_str(&mut out, 5, b""), None);
+    assert_eq!(rt; push_styled(&mut out, usize::MAX, Style::new(), b""), None);
+    assert!(rt; &out == b".ab.");
 }
