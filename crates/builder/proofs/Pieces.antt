@@ -54,5 +54,8 @@ written_both was a b o out at e h f g k =
 pub writes_last : (was a b o out : List ℕ) (at e : ℕ) (r : Option ℕ) → at + length (a ++ b) ≤ length was → length o ≡ length was → e ≡ at + length a → o ≡ take at was ++ (a ++ drop (at + length a) was)
     → Writes o e b out r → Writes was at (a ++ b) out r
 writes_last was a b o out at e None h l f g w = absurd (omega (arith, w.0, length-append a b))
-writes_last was a b o out at e (Some end) h l f g w =
-    (omega (arith, w.0, length-append a b), written_both was a b o out at e (omega (arith, length-append a b)) f g w.1)
+writes_last was a b o out at e (Some end) h l f g w = record {
+  room = h;
+  ends = omega (arith, w.ends, length-append a b);
+  memory = written_both was a b o out at e (omega (arith, length-append a b)) f g w.memory;
+}

@@ -33,7 +33,7 @@ pub trait Taker {
         ensures { Tells steps fails self.old (told_part part.entry ∷ []) self.new result };
 }
 
-// Tells some parts, in their order. Inlined, so that where it is called their roles are known.
+// Tells some parts, in their order. Inlined, so that a compiler knows their roles where it is called.
 #[inline(always)]
 pub fn say<T: Taker>(to: &mut T, parts: &[Part<'_>]) -> Result<(), SheetFault>
     ensures { Tells T.Taker.steps T.Taker.fails to.old (parts_of parts.now) to.new result }

@@ -19,7 +19,7 @@ pub struct Terminal {
 }
 
 impl Terminal {
-    // The style of a role; fixed, given and ready texts have none. Inlined, as `measure` is: where the role is known, no style is searched for.
+    // The style of a role; fixed, given and ready texts have none. Inlined, as `measure` is, so that a compiler can search once where one role is asked for again and again.
     #[inline]
     pub fn style(&self, role: Role) -> Style
         ensures { result ≡ style_in self.now.styles (part_of role []) }

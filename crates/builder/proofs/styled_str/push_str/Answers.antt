@@ -5,4 +5,8 @@ use Rattle.builder.proofs.styled_str.push_str.Goals as goal
 pub returns : goal.returns
 returns c =
     let e = c.in_ok-end.ensures in
-    (e.1, written_at c.args.out.now c.args.text.now c.copy_from_slice.new.self c.args.at _ c.copy_from_slice.ensures.after (omega (arith, e.1)))
+    record {
+      room = omega (arith, e.1);
+      ends = e.1;
+      memory = written_at c.args.out.now c.args.text.now c.copy_from_slice.new.self c.args.at _ c.copy_from_slice.ensures.after (omega (arith, e.1));
+    }
